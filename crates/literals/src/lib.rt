@@ -1,0 +1,153 @@
+// Document 01, Numberings: a type for each of the four, so that a number of one cannot stand where another is due.
+// Atoms and rules are counted in 16 bits, so that every number made of them fits 32 and no function has a `requires`.
+ghost use mathlib.Core.Path.{_≡_};
+ghost use Rattle.literals.specs.Answers.{atomOf, conjugateOf, defaultNegationOf, literalOf};
+ghost use Rattle.literals.specs.Numbering.{positive, negative, explicitlyNegated, otherOfPair};
+ghost use Rattle.literals.specs.Numbering.{objectiveNumber, defaultNegated, defaultConjugate};
+ghost use Rattle.literals.specs.Numbering.{falsum, listed, judged, foldOfRule, foldOfIntegrity};
+
+pub struct Atom(pub u16);
+
+pub struct Objective(pub u32);
+
+pub struct Literal(pub u32);
+
+pub struct Fold(pub u32);
+
+// What falsum has none of is answered by `Nothing`, and so is a number past it.
+pub enum AtomOf {
+    Is(Atom),
+    Nothing,
+}
+
+pub enum Conjugate {
+    Is(Objective),
+    Nothing,
+}
+
+pub enum LiteralOf {
+    Is(Literal),
+    Nothing,
+}
+
+// The atom itself, as an objective literal.
+pub fn positive(a: Atom) -> Objective
+    ensures { λ r. ⌜ r .0 ≡ positive (a .0) ⌝ }
+{
+    Objective(2 * (a.0 as u32))
+}
+
+// The atom's explicit negation.
+pub fn negative(a: Atom) -> Objective
+    ensures { λ r. ⌜ r .0 ≡ negative (a .0) ⌝ }
+{
+    Objective(2 * (a.0 as u32) + 1)
+}
+
+pub fn atom_of(o: Objective, atoms: u16) -> AtomOf
+    ensures { λ r. ⌜ r ≡ atomOf atoms (o .0) ⌝ }
+{
+    if is_listed(o, atoms) {
+        AtomOf::Is(Atom((o.0 / 2) as u16))
+    } else {
+        AtomOf::Nothing
+    }
+}
+
+pub fn is_explicitly_negated(o: Objective) -> bool
+    ensures { λ r. ⌜ r ≡ explicitlyNegated (o .0) ⌝ }
+{
+    o.0 % 2 == 1
+}
+
+// An atom for its explicit negation, and back.
+pub fn explicit_conjugate(o: Objective, atoms: u16) -> Conjugate
+    ensures { λ r. ⌜ r ≡ conjugateOf atoms (o .0) ⌝ }
+{
+    if is_listed(o, atoms) {
+        Conjugate::Is(Objective(other_of_pair(o.0)))
+    } else {
+        Conjugate::Nothing
+    }
+}
+
+// The objective literal itself, as a literal.
+pub fn literal_of(o: Objective, atoms: u16) -> LiteralOf
+    ensures { λ r. ⌜ r ≡ literalOf atoms (o .0) ⌝ }
+{
+    if is_listed(o, atoms) {
+        LiteralOf::Is(Literal(2 * o.0))
+    } else {
+        LiteralOf::Nothing
+    }
+}
+
+// The literal not(o).
+pub fn default_negation(o: Objective, atoms: u16) -> LiteralOf
+    ensures { λ r. ⌜ r ≡ defaultNegationOf atoms (o .0) ⌝ }
+{
+    if is_listed(o, atoms) {
+        LiteralOf::Is(Literal(2 * o.0 + 1))
+    } else {
+        LiteralOf::Nothing
+    }
+}
+
+pub fn objective_of(l: Literal) -> Objective
+    ensures { λ r. ⌜ r .0 ≡ objectiveNumber (l .0) ⌝ }
+{
+    Objective(l.0 / 2)
+}
+
+pub fn is_default_negated(l: Literal) -> bool
+    ensures { λ r. ⌜ r ≡ defaultNegated (l .0) ⌝ }
+{
+    l.0 % 2 == 1
+}
+
+// The literal with its not added or removed.
+pub fn default_conjugate(l: Literal) -> Literal
+    ensures { λ r. ⌜ r .0 ≡ defaultConjugate (l .0) ⌝ }
+{
+    Literal(other_of_pair(l.0))
+}
+
+pub fn falsum(atoms: u16) -> Objective
+    ensures { λ r. ⌜ r .0 ≡ falsum atoms ⌝ }
+{
+    Objective(2 * (atoms as u32))
+}
+
+// How many objective literals are judged: all that are listed, and falsum.
+pub fn judged(atoms: u16) -> u32
+    ensures { λ r. ⌜ r ≡ judged atoms ⌝ }
+{
+    2 * (atoms as u32) + 1
+}
+
+pub fn rule_fold(index: u16) -> Fold
+    ensures { λ r. ⌜ r .0 ≡ foldOfRule index ⌝ }
+{
+    Fold(index as u32)
+}
+
+// The fold of an integrity rule of a file with so many rules.
+pub fn integrity_fold(rules: u16, index: u16) -> Fold
+    ensures { λ r. ⌜ r .0 ≡ foldOfIntegrity rules index ⌝ }
+{
+    Fold(rules as u32 + index as u32)
+}
+
+// Below falsum: the objective literals that a file can name.
+fn is_listed(o: Objective, atoms: u16) -> bool
+    ensures { λ r. ⌜ r ≡ listed atoms (o .0) ⌝ }
+{
+    o.0 < 2 * (atoms as u32)
+}
+
+// The one of 2k and 2k+1 that `x` is not. The greatest number is odd, so the sum fits.
+fn other_of_pair(x: u32) -> u32
+    ensures { λ r. ⌜ r ≡ otherOfPair x ⌝ }
+{
+    if x % 2 == 0 { x + 1 } else { x - 1 }
+}
