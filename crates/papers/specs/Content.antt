@@ -1,0 +1,39 @@
+-- The tests of a field's content, in the order of document 01. A list of checks is the number of the first that fails, or 0.
+use mathlib.Core.Bool.{Bool, true, false, not, cond}
+use mathlib.Core.List.{List, [], _∷_}
+use Prim.Native.Nat.{ℕ, _+_, _*_, _/_}
+use lib.Dec.{eqb, leb, ltb}
+use Rattle.papers.specs.Outcome.{check}
+
+-- 4: "value is not 1".
+unfoldable pub editionFault : ℕ → ℕ
+editionFault value = check (eqb value 1) 4 0
+
+-- 5: "0 or above 256".
+unfoldable pub atomsFault : ℕ → ℕ
+atomsFault n = check (leb 1 n) 5 (check (leb n 256) 5 0)
+
+-- "In 03 each number is tested by 6, then 7": below n, then above the one before. `least` is one more than that one.
+unfoldable pub abduciblesFault : ℕ → ℕ → List ℕ → ℕ
+abduciblesFault n least [] = 0
+abduciblesFault n least (a ∷ more) = check (ltb a n) 6 (check (leb least a) 7 (abduciblesFault n (a + 1) more))
+
+-- "Each literal is tested by 6": below 4n.
+unfoldable pub literalsFault : ℕ → List ℕ → ℕ
+literalsFault n [] = 0
+literalsFault n (l ∷ more) = check (ltb l (4 * n)) 6 (literalsFault n more)
+
+-- Whether an atom is among the abducibles.
+unfoldable pub isAmong : List ℕ → ℕ → Bool
+isAmong [] atom = false
+isAmong (a ∷ more) atom = cond (eqb a atom) true (isAmong more atom)
+
+-- "In 04 the head is tested by 6, then 8, then each body literal by 6": below 2n, then no abducible or its negation.
+unfoldable pub ruleFault : ℕ → List ℕ → List ℕ → ℕ
+ruleFault n abducibles [] = 0
+ruleFault n abducibles (head ∷ body) =
+    check (ltb head (2 * n)) 6 (check (not (isAmong abducibles (head / 2))) 8 (literalsFault n body))
+
+-- The test of a rule's or an integrity rule's numbers, by its tag.
+unfoldable pub bodyFault : ℕ → ℕ → List ℕ → List ℕ → ℕ
+bodyFault tag n abducibles content = cond (eqb tag 0x04) (ruleFault n abducibles content) (literalsFault n content)

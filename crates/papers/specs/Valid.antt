@@ -1,0 +1,40 @@
+-- The programs and queries that document 01 allows: all its limits.
+use mathlib.Core.Path.{_≡_}
+use mathlib.Core.Bool.{false}
+use mathlib.Core.List.{List, [], _∷_}
+use Prim.Native.Nat.{ℕ, _+_, _*_, _/_, _≤_, _<_}
+use lib.ListN.{length}
+use Rattle.papers.specs.Program.{Rule, Program}
+use Rattle.papers.specs.Content.{isAmong}
+
+-- Every element has a property.
+pub data All {A : Type 0} (P : A → Type 0) : List A → Type 0 where
+  none : All P []
+  each : {a : A} {more : List A} → P a → All P more → All P (a ∷ more)
+
+-- "Strictly rising": each is at least one more than the one before, the first at least `least`.
+pub data Rising : ℕ → List ℕ → Type 0 where
+  none : {least : ℕ} → Rising least []
+  next : {least a : ℕ} {more : List ℕ} → least ≤ a → Rising (a + 1) more → Rising least (a ∷ more)
+
+-- A body or a query: 0 to 16 literals, each below 4n.
+pub record ValidBody (n : ℕ) (body : List ℕ) : Type 0 where
+  pub few : length body ≤ 16
+  pub listed : All (_< 4 * n) body
+
+-- A rule: a head below 2n that is no abducible or its negation, and a body.
+pub record ValidRule (n : ℕ) (abducibles : List ℕ) (r : Rule) : Type 0 where
+  pub listed : r .head < 2 * n
+  pub free : isAmong abducibles (r .head / 2) ≡ false
+  pub body : ValidBody n (r .body)
+
+pub record Valid (p : Program) : Type 0 where
+  pub someAtoms : 1 ≤ p .atoms
+  pub fewAtoms : p .atoms ≤ 256
+  pub fewAbducibles : length (p .abducibles) ≤ 16
+  pub abduciblesListed : All (_< p .atoms) (p .abducibles)
+  pub abduciblesRising : Rising 0 (p .abducibles)
+  pub fewRules : length (p .rules) ≤ 1024
+  pub rules : All (ValidRule (p .atoms) (p .abducibles)) (p .rules)
+  pub fewIntegrity : length (p .integrity) ≤ 256
+  pub integrity : All (ValidBody (p .atoms)) (p .integrity)
