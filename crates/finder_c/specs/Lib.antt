@@ -1,0 +1,2 @@
+-- What the C functions write into the caller's eight words.
+pub mod Words

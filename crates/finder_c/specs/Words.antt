@@ -1,0 +1,22 @@
+-- The eight words of an answer: 0 the refusal number (0: accepted), 1 the paper (0 file, 1 sheet), 2 the place, the others by the
+-- call. A word that has no meaning in an answer is 0.
+use mathlib.Core.List.{List, [], _∷_}
+use Prim.Native.Nat.{ℕ}
+use lib.ListN.{length}
+use Rattle.papers.specs.declared.Paper.{Paper}
+use Rattle.papers.specs.declared.Paper.the-variants.{File, Sheet}
+use Rattle.papers.specs.declared.Refusal.{Refusal}
+use Rattle.papers.specs.Outcome.{Outcome, accepted, refused}
+use Rattle.papers.specs.Answers.{restFrom}
+
+abbrev pub paperNumber : Paper → ℕ
+paperNumber File = 0
+paperNumber Sheet = 1
+
+-- A refusal of a paper, and one more word: the length of the paper's rest.
+abbrev pub refusalWords : Refusal → ℕ → List ℕ
+refusalWords r rest = r .number ∷ paperNumber (r .paper) ∷ r .place ∷ rest ∷ 0 ∷ 0 ∷ 0 ∷ 0 ∷ []
+
+abbrev pub restWords : {A : Type 0} → Outcome A → List ℕ → List ℕ → List ℕ
+restWords (accepted a) file sheet = 0 ∷ 0 ∷ 0 ∷ 0 ∷ 0 ∷ 0 ∷ 0 ∷ 0 ∷ []
+restWords (refused r) file sheet = refusalWords r (length (restFrom (r .paper) (r .place) file sheet))

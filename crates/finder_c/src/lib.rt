@@ -1,0 +1,39 @@
+// The boundary for C and Rust. Each function writes its answer into eight words of the caller's, as
+// include/finder.h says.
+ghost use mathlib.Core.Path.{_≡_};
+ghost use Rattle.papers.specs.Reading.{readPapers};
+ghost use Rattle.finder_c.specs.Words.{paperNumber, refusalWords, restWords};
+use papers::Paper;
+use papers::PapersRead;
+use papers::Refusal;
+
+fn paper_number(paper: Paper) -> u64
+    ensures { λ r. ⌜ r ≡ paperNumber paper ⌝ }
+{
+    match paper {
+        Paper::File => 0,
+        Paper::Sheet => 1,
+    }
+}
+
+fn refusal_words(refusal: Refusal, rest: usize) -> [u64; 8]
+    ensures { λ r. ⌜ r ≡ refusalWords refusal rest ⌝ }
+{
+    let number = refusal.number as u64;
+    let paper = refusal.paper;
+    let place = refusal.place as u64;
+    [number, paper_number(paper), place, rest as u64, 0, 0, 0, 0]
+}
+
+#[no_mangle]
+pub extern "C" fn finder_rest<'a>(file: &'a [u8], sheet: &'a [u8], out: &mut [u64; 8])
+    ensures { λ _. ⌜ now (out .exit) ≡ restWords (readPapers (now (file .entry)) (now (sheet .entry))) (now (file .entry)) (now (sheet .entry)) ⌝ }
+{
+    let read = papers::read_papers(file, sheet);
+    let PapersRead::Refused(refusal) = read else {
+        *out = [0; 8];
+        return;
+    };
+    let rest = papers::rest_of_paper(file, sheet).len();
+    *out = refusal_words(refusal, rest);
+}
