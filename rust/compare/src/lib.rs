@@ -1,0 +1,20 @@
+//! Random papers on which the separate finder and the finder behind the C
+//! boundary must agree, and a count of what they reached.
+//!
+//! * [`random`] makes random numbers;
+//! * [`programs`] makes programs and queries, within and around the limits;
+//! * [`fields`] takes papers apart, and [`damage`] damages their bytes, fields
+//!   and numbers;
+//! * [`noise`] makes bytes that were never a paper;
+//! * [`rounds`] puts these together into pairs of papers;
+//! * [`coverage`] counts which answers came, and knows which must.
+
+#![forbid(unsafe_code)]
+
+pub mod coverage;
+pub mod damage;
+pub mod fields;
+pub mod noise;
+pub mod programs;
+pub mod random;
+pub mod rounds;

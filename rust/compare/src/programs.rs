@@ -1,0 +1,182 @@
+//! Random programs and queries of a chosen size.
+
+use plain::field::{MOST_ABDUCIBLES, MOST_ATOMS, MOST_INTEGRITY_RULES, MOST_LITERALS, MOST_RULES};
+use plain::{Atom, Literal, ObjectiveLiteral, Program, Query, Rule};
+
+use crate::random::Random;
+
+/// How large a program and its query are.
+#[derive(Clone, Copy, Debug)]
+pub struct Size {
+    pub atoms: u16,
+    pub abducibles: usize,
+    pub rules: usize,
+    pub integrity_rules: usize,
+    /// The least literals in a body or query, and the most.
+    pub least_literals: usize,
+    pub most_literals: usize,
+}
+
+impl Size {
+    /// That of the longest papers that are accepted.
+    pub const LARGEST: Size = Size {
+        atoms: MOST_ATOMS,
+        abducibles: MOST_ABDUCIBLES,
+        rules: MOST_RULES,
+        integrity_rules: MOST_INTEGRITY_RULES,
+        least_literals: MOST_LITERALS,
+        most_literals: MOST_LITERALS,
+    };
+
+    /// Small as a rule, but now and then at a limit that keeps papers short.
+    pub fn small(random: &mut Random) -> Size {
+        let mut size = Size {
+            atoms: random.between(1, 6) as u16,
+            abducibles: random.below(4),
+            rules: random.below(5),
+            integrity_rules: random.below(3),
+            least_literals: 0,
+            most_literals: random.below(4),
+        };
+        if random.one_in(10) {
+            size.atoms = random.between(1, MOST_ATOMS.into()) as u16;
+        }
+        // Where a bound would wrap in a byte.
+        if random.one_in(10) {
+            size.atoms = random.pick(&[63, 64, 65, 127, 128, 129]);
+        }
+        if random.one_in(10) {
+            size.atoms = MOST_ATOMS - random.below(2) as u16;
+        }
+        if random.one_in(10) {
+            size.atoms = size.atoms.max(20);
+            size.abducibles = MOST_ABDUCIBLES - random.below(2);
+        }
+        if random.one_in(10) {
+            size.most_literals = MOST_LITERALS - random.below(2);
+        }
+        size
+    }
+
+    /// As much of one thing, or of all, as a program may have, or about as
+    /// much: some sizes are past a limit.
+    pub fn around_limits(random: &mut Random) -> Size {
+        let mut size = Size::small(random);
+        // Else there may be no head left for a rule.
+        size.atoms = size.atoms.max(5);
+        size.most_literals = random.below(2);
+        match random.below(20) {
+            0 => size = Size::LARGEST,
+            1 => size.atoms = around(random, MOST_ATOMS.into()) as u16,
+            2 => {
+                size.atoms = size.atoms.max(20);
+                size.abducibles = around(random, MOST_ABDUCIBLES);
+            }
+            3 => size.most_literals = around(random, MOST_LITERALS),
+            4..=7 => {
+                size.rules = around(random, MOST_RULES);
+                size.integrity_rules = around(random, MOST_INTEGRITY_RULES);
+            }
+            8..=13 => size.rules = around(random, MOST_RULES),
+            _ => size.integrity_rules = around(random, MOST_INTEGRITY_RULES),
+        }
+        size
+    }
+
+    pub fn is_within_limits(&self) -> bool {
+        self.atoms <= MOST_ATOMS
+            && self.abducibles <= MOST_ABDUCIBLES
+            && self.rules <= MOST_RULES
+            && self.integrity_rules <= MOST_INTEGRITY_RULES
+            && self.most_literals <= MOST_LITERALS
+    }
+}
+
+/// The limit itself most often, else one below, one above or two above.
+fn around(random: &mut Random, limit: usize) -> usize {
+    random.pick(&[limit, limit, limit, limit - 1, limit + 1, limit + 2])
+}
+
+/// A program of this size, save that it has fewer abducibles where it has not
+/// the atoms for them, and no rules where no head is left for them.
+pub fn program(random: &mut Random, size: &Size) -> Program {
+    let abducibles = atoms(random, size.atoms, size.abducibles);
+    let heads: Vec<ObjectiveLiteral> = (0..2 * size.atoms)
+        .map(ObjectiveLiteral)
+        .filter(|head| !abducibles.contains(&head.atom()))
+        .collect();
+    let rules = if heads.is_empty() { 0 } else { size.rules };
+    Program {
+        atoms: size.atoms,
+        abducibles,
+        rules: (0..rules)
+            .map(|_| Rule {
+                head: random.pick(&heads),
+                body: literals(random, size),
+            })
+            .collect(),
+        integrity_bodies: (0..size.integrity_rules)
+            .map(|_| literals(random, size))
+            .collect(),
+    }
+}
+
+pub fn query(random: &mut Random, size: &Size) -> Query {
+    Query {
+        literals: literals(random, size),
+    }
+}
+
+/// Some of the atoms below `count`, at most `most`, strictly rising.
+fn atoms(random: &mut Random, count: u16, most: usize) -> Vec<Atom> {
+    let mut left: Vec<Atom> = (0..count).map(Atom).collect();
+    while left.len() > most {
+        left.remove(random.below(left.len()));
+    }
+    left
+}
+
+fn literals(random: &mut Random, size: &Size) -> Vec<Literal> {
+    let count = if random.one_in(3) {
+        size.most_literals
+    } else {
+        random.between(size.least_literals, size.most_literals)
+    };
+    (0..count)
+        .map(|_| Literal(random.below(4 * usize::from(size.atoms)) as u16))
+        .collect()
+}
+
+#[cfg(test)]
+mod tests {
+    use super::*;
+
+    #[test]
+    fn the_largest_program_makes_the_longest_file() {
+        let mut random = Random::new(2);
+        let program = program(&mut random, &Size::LARGEST);
+        let front = 4 + 5 + (3 + 2 * 16);
+        let rules = 1024 * (3 + 2 * 17);
+        let integrity_rules = 256 * (3 + 2 * 16);
+        let end = 3;
+        let file = plain::encode_file(&program);
+        assert_eq!(file.len(), front + rules + integrity_rules + end);
+        assert_eq!(plain::read_file(&file), Ok(program));
+    }
+
+    #[test]
+    fn where_all_atoms_are_abducible_there_are_no_rules() {
+        let mut random = Random::new(3);
+        let size = Size {
+            atoms: 2,
+            abducibles: 3,
+            rules: 1,
+            integrity_rules: 0,
+            least_literals: 0,
+            most_literals: 0,
+        };
+        let program = program(&mut random, &size);
+        assert_eq!(program.abducibles, [Atom(0), Atom(1)]);
+        assert_eq!(program.rules, []);
+    }
+}

@@ -1,0 +1,10 @@
+//! The fault finder behind its C boundary, made safe to call.
+//!
+//! Document 01 says what the calls mean, include/finder.h how they cross the
+//! boundary. Each call of the header has its module here.
+
+mod boundary;
+pub mod rest;
+
+pub use boundary::SLOTS;
+pub use rest::{rest, rest_words, Answer, Paper, Refusal};

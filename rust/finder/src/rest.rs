@@ -1,0 +1,83 @@
+//! Which paper is refused, why and where, and the rest of it from there.
+
+use crate::boundary::{self, SLOTS};
+
+#[derive(Clone, Copy, Debug, PartialEq, Eq)]
+pub enum Paper {
+    File,
+    Sheet,
+}
+
+#[derive(Clone, Copy, Debug, PartialEq, Eq)]
+pub struct Refusal {
+    /// From 1 to 10, as document 01 numbers them.
+    pub number: u8,
+    pub paper: Paper,
+    pub place: usize,
+}
+
+#[derive(Clone, Copy, Debug, PartialEq, Eq)]
+pub struct Answer<'p> {
+    /// None where both papers are accepted.
+    pub refusal: Option<Refusal>,
+    /// The refused paper from the place on, or the empty part at the sheet's
+    /// end where neither paper is refused.
+    pub rest: &'p [u8],
+}
+
+/// Reads both papers, the file first.
+///
+/// # Panics
+///
+/// Where the words that come back are not as include/finder.h documents them.
+pub fn rest<'p>(file: &'p [u8], sheet: &'p [u8]) -> Answer<'p> {
+    let mut words = [0; SLOTS];
+    rest_words(file, sheet, &mut words);
+    answer(file, sheet, &words)
+}
+
+/// The same call with its words as they cross the boundary.
+pub fn rest_words(file: &[u8], sheet: &[u8], out: &mut [u64; SLOTS]) {
+    // SAFETY: the slices are readable for their lengths and, being slices,
+    // not null and not longer than PTRDIFF_MAX; `out` is writable for eight
+    // words and, being lent alone, overlaps neither of them.
+    unsafe {
+        boundary::finder_rest(
+            file.as_ptr(),
+            file.len(),
+            sheet.as_ptr(),
+            sheet.len(),
+            out.as_mut_ptr(),
+        );
+    }
+}
+
+fn answer<'p>(file: &'p [u8], sheet: &'p [u8], words: &[u64; SLOTS]) -> Answer<'p> {
+    let [number, paper, place, rest_length, unused @ ..] = *words;
+    assert_eq!(unused, [0; 4], "slots 4 to 7 have no meaning");
+    if number == 0 {
+        assert_eq!((paper, place, rest_length), (0, 0, 0), "both accepted");
+        return Answer {
+            refusal: None,
+            rest: &sheet[sheet.len()..],
+        };
+    }
+
+    assert!(number <= 10, "no reading is refused with number {number}");
+    let (paper, bytes) = match paper {
+        0 => (Paper::File, file),
+        1 => (Paper::Sheet, sheet),
+        _ => panic!("there is no paper {paper}"),
+    };
+    let place = usize::try_from(place).expect("a place in a paper");
+    let rest = bytes.get(place..).expect("a place in the refused paper");
+    assert_eq!(rest.len() as u64, rest_length, "the length of the rest");
+    Answer {
+        refusal: Some(Refusal {
+            number: number as u8,
+            paper,
+            place,
+        }),
+        rest,
+    }
+}

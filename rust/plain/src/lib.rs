@@ -1,0 +1,24 @@
+//! A separate fault finder, written from document 01 alone.
+//!
+//! It is meant to be compared with, so it is written to be read against the
+//! document line by line; speed comes second. Each part of the document has
+//! its module here:
+//!
+//! * "Numberings" is [`numbering`];
+//! * "The file and the sheet" is [`field`], [`program`], [`refusal`],
+//!   [`read`] and [`mod@write`].
+
+#![forbid(unsafe_code)]
+
+pub mod field;
+pub mod numbering;
+pub mod program;
+pub mod read;
+pub mod refusal;
+pub mod write;
+
+pub use numbering::{Atom, Literal, ObjectiveLiteral};
+pub use program::{Program, Query, Rule};
+pub use read::{read_file, read_papers, read_sheet, rest_of_paper};
+pub use refusal::{Number, Paper, Refusal};
+pub use write::{encode_file, encode_sheet};

@@ -1,0 +1,41 @@
+//! The numberings of atoms, objective literals and literals.
+//!
+//! They never stand for one another, so each has a type of its own. In all of
+//! them `atoms` is the atom count n.
+
+/// Atom a, from 0 to n-1.
+#[derive(Clone, Copy, Debug, PartialEq, Eq, PartialOrd, Ord, Hash)]
+pub struct Atom(pub u16);
+
+impl Atom {
+    pub fn is_listed(self, atoms: u16) -> bool {
+        self.0 < atoms
+    }
+}
+
+/// Objective literal 2a is atom a, 2a+1 is its explicit negation.
+///
+/// Falsum, objective literal 2n, stands in no file and is not listed.
+#[derive(Clone, Copy, Debug, PartialEq, Eq, PartialOrd, Ord, Hash)]
+pub struct ObjectiveLiteral(pub u16);
+
+impl ObjectiveLiteral {
+    pub fn is_listed(self, atoms: u16) -> bool {
+        u32::from(self.0) < 2 * u32::from(atoms)
+    }
+
+    /// The atom that this is, or is the explicit negation of.
+    pub fn atom(self) -> Atom {
+        Atom(self.0 / 2)
+    }
+}
+
+/// Literal 2o is objective literal o, 2o+1 is not(o).
+#[derive(Clone, Copy, Debug, PartialEq, Eq, PartialOrd, Ord, Hash)]
+pub struct Literal(pub u16);
+
+impl Literal {
+    pub fn is_listed(self, atoms: u16) -> bool {
+        u32::from(self.0) < 4 * u32::from(atoms)
+    }
+}

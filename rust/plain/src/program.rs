@@ -1,0 +1,29 @@
+//! What the two papers say: a program and a query.
+
+use crate::numbering::{Atom, Literal, ObjectiveLiteral};
+
+/// The content of a file.
+#[derive(Clone, Debug, PartialEq, Eq)]
+pub struct Program {
+    /// The atom count n.
+    pub atoms: u16,
+    /// The abducible atoms, strictly rising.
+    pub abducibles: Vec<Atom>,
+    /// The rules in file order.
+    pub rules: Vec<Rule>,
+    /// The bodies of the integrity rules in file order; their head is falsum.
+    pub integrity_bodies: Vec<Vec<Literal>>,
+}
+
+/// A rule that is not an integrity rule. An empty body is true.
+#[derive(Clone, Debug, PartialEq, Eq)]
+pub struct Rule {
+    pub head: ObjectiveLiteral,
+    pub body: Vec<Literal>,
+}
+
+/// The content of a sheet. An empty query is true.
+#[derive(Clone, Debug, PartialEq, Eq)]
+pub struct Query {
+    pub literals: Vec<Literal>,
+}

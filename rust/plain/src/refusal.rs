@@ -1,0 +1,63 @@
+//! Refusals 1 to 10: those that name a paper and a place in it.
+
+use std::fmt;
+
+/// The number of a refusal, named by its word.
+#[derive(Clone, Copy, Debug, PartialEq, Eq, PartialOrd, Ord, Hash)]
+pub enum Number {
+    /// Bytes end inside a field or before 7F.
+    Cut = 1,
+    /// Tag unknown or not allowed there.
+    StrayField = 2,
+    /// Length not allowed for the tag.
+    Misfit = 3,
+    /// Value is not 1.
+    Edition = 4,
+    /// 0 or above 256.
+    AtomCount = 5,
+    /// Atom not below n, head not below 2n, literal not below 4n.
+    Unlisted = 6,
+    /// Abducible not above the one before.
+    Disorder = 7,
+    /// Head is an abducible or its negation.
+    FixedFault = 8,
+    /// Rule 1,025 or integrity rule 257.
+    Overfull = 9,
+    /// Bytes after 7F.
+    Tail = 10,
+}
+
+#[derive(Clone, Copy, Debug, PartialEq, Eq, PartialOrd, Ord, Hash)]
+pub enum Paper {
+    File,
+    Sheet,
+}
+
+/// Why a paper was not accepted, and where.
+#[derive(Clone, Copy, Debug, PartialEq, Eq)]
+pub struct Refusal {
+    pub number: Number,
+    pub paper: Paper,
+    /// The first byte of the refused field; for [`Number::Tail`] the byte
+    /// after the 7F field; the end of the paper where a field is missing.
+    pub place: usize,
+}
+
+impl fmt::Display for Paper {
+    fn fmt(&self, f: &mut fmt::Formatter) -> fmt::Result {
+        f.write_str(match self {
+            Paper::File => "file",
+            Paper::Sheet => "sheet",
+        })
+    }
+}
+
+/// The line that document 01 prints for a refusal.
+impl fmt::Display for Refusal {
+    fn fmt(&self, f: &mut fmt::Formatter) -> fmt::Result {
+        let number = self.number as u8;
+        write!(f, "refused {number} {} {}", self.paper, self.place)
+    }
+}
+
+impl std::error::Error for Refusal {}
