@@ -18,3 +18,4 @@ pub mod RunAnswers
 pub mod Answered
 pub mod RulesAnswers
 pub mod FileAnswers
+pub mod FoldAnswers

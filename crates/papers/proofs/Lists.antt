@@ -1,11 +1,12 @@
 -- Laws of lists that the library lacks: properties of every element under `map`, and what stands after a part.
 -- Assumes nothing.
-use mathlib.Core.Path.{_≡_, refl, sym, _∙_}
+use mathlib.Core.Path.{_≡_, refl, sym, ap, _∙_}
 use mathlib.Core.List.{List, [], _∷_, _++_, map}
-use Prim.Native.Nat.{ℕ, zero, suc, _+_, _<_}
+use Prim.Native.Nat.{ℕ, zero, suc, _+_, _-_, _<_}
+use native.Mathlib.Decide.{ℕ-discrete}
 use native.Mathlib.Omega.{arith}
-use lib.ListN.{length, getD, drop}
-use lib.Seq.{drop-drop, drop-at}
+use lib.ListN.{length, getD, take, drop, set}
+use lib.Seq.{take-nil, drop-drop, drop-at, getD-set-same, getD-set-other}
 use Rattle.papers.specs.Valid.{All, none, each}
 
 module _ {A B : Type 0} {P : A → Type 0} where
@@ -35,3 +36,18 @@ pub getD-map-lt : {A B : Type 0} (f : A → B) (l : List A) (i : ℕ) (x : B) (d
 getD-map-lt f [] i x d h = absurd (omega arith)
 getD-map-lt f (a ∷ more) zero x d h = refl
 getD-map-lt f (a ∷ more) (suc i) x d h = getD-map-lt f more i x d (omega arith)
+
+-- A part of a part.
+pub drop-take : {A : Type 0} (k n : ℕ) (l : List A) → drop k (take n l) ≡ take (n - k) (drop k l)
+drop-take zero n l = ap (λ (m : ℕ). take m l) (let e : n ≡ n - 0 = omega arith in e)
+drop-take (suc k) zero l = let e : 0 - suc k ≡ 0 = omega arith in rw e
+drop-take (suc k) (suc n) [] = sym (take-nil (suc n - suc k))
+drop-take (suc k) (suc n) (x ∷ l) = drop-take k n l ∙ ap (λ (m : ℕ). take m (drop k l)) (let e : n - k ≡ suc n - suc k = omega arith in e)
+
+-- One more element is set to what a function says of its index.
+pub set-more : (l : List ℕ) (i v : ℕ) (f : ℕ → ℕ) → i < length l → v ≡ f i → ((j : ℕ) → j < i → getD l j 0 ≡ f j)
+    → (j : ℕ) → j < i + 1 → getD (set l i v) j 0 ≡ f j
+set-more l i v f within e below j h = elim (ℕ-discrete j i) [
+  | yes q ↦ rw q (getD-set-same l i v 0 within ∙ e)
+  | no q ↦ getD-set-other l i j v 0 q ∙ below j (omega arith)
+]

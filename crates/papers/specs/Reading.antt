@@ -7,7 +7,7 @@ use lib.ListN.{length, getD, drop}
 use Rattle.papers.specs.declared.Paper.{Paper}
 use Rattle.papers.specs.declared.Paper.the-variants.{File, Sheet}
 use Rattle.papers.specs.Program.{Rule, Program, Query}
-use Rattle.papers.specs.Outcome.{Outcome, accepted, check, passing, andThen}
+use Rattle.papers.specs.Outcome.{Outcome, accepted, refused, check, passing, andThen}
 use Rattle.papers.specs.Field.{numbers, readField}
 use Rattle.papers.specs.Content.{editionFault, atomsFault, abduciblesFault, literalsFault, bodyFault}
 
@@ -93,6 +93,13 @@ readFile bytes =
     andThen (readAtoms bytes) (λ n.
     andThen (readAbducibles n bytes) (λ abducibles.
     readRules n abducibles bytes)))
+
+-- The program of an accepted file. Of a refused one it is of no use: one atom and nothing said.
+unfoldable pub programIn : List ℕ → Program
+programIn bytes = accepted-in (readFile bytes) where
+  accepted-in : Outcome Program → Program
+  accepted-in (accepted p) = p
+  accepted-in (refused r) = record { atoms = 1; abducibles = []; rules = []; integrity = [] }
 
 -- "Sheet: 06 query (0 to 16 literals), then 7F."
 unfoldable pub readSheet : ℕ → List ℕ → Outcome Query

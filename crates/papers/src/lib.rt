@@ -1,7 +1,8 @@
 // The two papers: which bytes are a rule file and a query sheet, and under which number and place
 // any others are refused.
 mod content;
-mod field;
+pub mod field;
+pub mod folds;
 mod reading;
 
 ghost use mathlib.Core.Path.{_≡_};
