@@ -2,31 +2,24 @@
 -- Assumes nothing.
 use mathlib.Core.Path.{_≡_, refl, sym, ap, _∙_}
 use mathlib.Core.List.{List}
-use Prim.Native.Nat.{ℕ, _+_, _-_, _≤_, _<_}
+use Prim.Native.Nat.{ℕ, _+_, _-_, _*_, _≤_, _<_}
 use native.Mathlib.Omega.{arith}
-use lib.ListN.{length, take, drop}
-use lib.Seq.{drop-drop}
+use lib.ListN.{length, getD, take, drop, length-drop}
+use lib.Seq.{length-take-le}
 use Rattle.papers.specs.declared.Contents.{Contents}
 use Rattle.papers.specs.declared.FileRead.the-variants.{Accepted}
+use Rattle.papers.specs.Program.{allRules, ruleAt}
 use Rattle.papers.specs.Outcome.{accepted}
-use Rattle.papers.specs.Field.{sizeOf, contentOf}
+use Rattle.papers.specs.Field.{number, sizeOf}
 use Rattle.papers.specs.Reading.{readFile, programIn}
 use Rattle.papers.specs.Answers.{contentsOf, fileAnswer}
-use Rattle.papers.specs.Places.{fieldNumbers, foldPlace}
-use Rattle.papers.proofs.Lists.{drop-take}
+use Rattle.papers.specs.Places.{fieldNumbers, foldPlace, Walked, BodyOf}
+use Rattle.papers.specs.Valid.{Valid}
 use Rattle.papers.proofs.NumberLaws.{Bytes}
 use Rattle.papers.proofs.Accepted.{accepted-valid}
 use Rattle.papers.proofs.FoldLaws.{fold-count, fold-first, fold-next, fold-size, fold-within}
+use Rattle.papers.proofs.RuleLaws.{rules-count, integrity-head, head-within, BodyAt, rule-part, integrity-part, rule-head}
 use Rattle.papers.proofs.Answered.{file-accepted}
-
--- The content of the field at a place, without its first bytes, as a part of the paper.
-pub body-part : (skip place start end : ℕ) (bytes : List ℕ) → end ≡ place + 3 + sizeOf (drop place bytes) → start ≡ place + 3 + skip
-    → take (end - start) (drop start bytes) ≡ drop skip (contentOf (drop place bytes))
-unfolding contentOf
-body-part skip place start end bytes e s =
-    let k : end - start ≡ sizeOf (drop place bytes) - skip = omega arith in
-    let d : drop skip (drop 3 (drop place bytes)) ≡ drop start bytes = rw (drop-drop 3 place bytes, drop-drop skip (place + 3) bytes, s) in
-    sym (drop-take skip (sizeOf (drop place bytes)) (drop 3 (drop place bytes)) ∙ rw (d, k))
 
 -- The answer of an accepted file tells of the program in it.
 pub record Told (bytes : List ℕ) (contents : Contents) : Type 0 where
@@ -71,3 +64,78 @@ module _ (bytes : List ℕ) (contents : Contents) (answer : fileAnswer (readFile
     next-place {place} e =
         let s : sizeOf (drop place bytes) ≡ sizeOf (drop (foldPlace (programIn bytes) i) bytes) = ap (λ (x : ℕ). sizeOf (drop x bytes)) e in
         omega (arith, fold-size bytes (programIn bytes) b (told bytes contents answer .is) i listed, fold-next (programIn bytes) i listed)
+
+-- ---- a rule by its fold number
+
+module _ (bytes : List ℕ) (contents : Contents) (places : List ℕ) (w : Walked bytes contents places) (b : Bytes bytes)
+    (fold : ℕ) (here : fold < length (allRules (programIn bytes))) where
+  is : readFile bytes ≡ accepted (programIn bytes)
+  is = told bytes contents (w .answer) .is
+
+  valid : Valid (programIn bytes)
+  valid = accepted-valid bytes (programIn bytes) is
+
+  rules-are : length ((programIn bytes) .rules) ≡ contents .rules .count
+  rules-are = ap (λ (x : Contents). x .rules .count) (told bytes contents (w .answer) .contents-are)
+
+  atoms-are : (programIn bytes) .atoms ≡ contents .atoms
+  atoms-are = ap (λ (x : Contents). x .atoms) (told bytes contents (w .answer) .contents-are)
+
+  counted : fold < contents .rules .count + contents .integrity .count
+  counted = omega (arith, folds-counted bytes contents (w .answer), rules-count (programIn bytes))
+
+  pub fold-few : fold < 1280
+  fold-few = let c = counted in omega (arith, few-folds bytes contents (w .answer))
+
+  pub place-heading : getD places fold 0 + 2 < length bytes
+  place-heading = let e = w .at fold here in omega (arith, fold-heading bytes contents (w .answer) b fold counted)
+
+  pub place-end : getD places fold 0 + 3 + sizeOf (drop (getD places fold 0) bytes) ≡ foldPlace (programIn bytes) (fold + 1)
+  place-end = next-place bytes contents (w .answer) b fold counted (w .at fold here)
+
+  head-few : (ruleAt (programIn bytes) fold) .head < 513
+  head-few = let v = valid in let h = head-within (programIn bytes) v fold here in omega (arith, v .fewAtoms)
+
+  -- A rule's head stands after the heading.
+  pub headed : fold < contents .rules .count → getD places fold 0 + 4 < length bytes
+  headed h =
+      let r = rules-are in
+      let e = w .at fold here in
+      let p = rule-part bytes (programIn bytes) b is fold (omega arith) in
+      omega (arith, p .ordered, p .within)
+
+  pub head-there : (h : fold < contents .rules .count) {r : ℕ} → r ≡ number (getD bytes (getD places fold 0 + 3) 0) (getD bytes (getD places fold 0 + 3 + 1) 0)
+      → (r ≡ (ruleAt (programIn bytes) fold) .head) × (r < 513)
+  head-there h {r} q =
+      let c = rules-are in
+      let k = head-few in
+      let s : getD places fold 0 + 3 + 1 ≡ getD places fold 0 + 4 = omega arith in
+      let e = rule-head bytes (programIn bytes) b is fold (omega arith) in
+      let f : r ≡ (ruleAt (programIn bytes) fold) .head = q ∙ rw (s, w .at fold here) e in
+      (f, omega arith)
+
+  pub head-falsum : contents .rules .count ≤ fold → (2 * contents .atoms ≡ (ruleAt (programIn bytes) fold) .head) × (2 * contents .atoms < 513)
+  head-falsum h =
+      let c = rules-are in
+      let a = atoms-are in
+      let k = head-few in
+      let e = integrity-head (programIn bytes) fold (omega arith) here in
+      (omega arith, omega arith)
+
+  -- The body is the part of the file between these.
+  pub body-there : (start end : ℕ) → end ≡ getD places fold 0 + 3 + sizeOf (drop (getD places fold 0) bytes)
+      → BodyAt bytes start (foldPlace (programIn bytes) (fold + 1)) ((ruleAt (programIn bytes) fold) .body)
+      → (start ≤ end) × ((end ≤ length bytes) × BodyOf (ruleAt (programIn bytes) fold) (take (end - start) (drop start bytes)))
+  body-there start end e p =
+      let q : end ≡ foldPlace (programIn bytes) (fold + 1) = e ∙ place-end in
+      let l : length (drop start bytes) ≡ length bytes - start = length-drop start bytes in
+      let s : length (take (end - start) (drop start bytes)) ≡ end - start = length-take-le (end - start) (drop start bytes) (omega (arith, p .within)) in (
+        omega (arith, p .ordered),
+        (omega (arith, p .within), record { literals = rw q (p .is); size = s ∙ rw q (p .size) }),
+      )
+
+  pub body-headed : fold < contents .rules .count → BodyAt bytes (getD places fold 0 + 5) (foldPlace (programIn bytes) (fold + 1)) ((ruleAt (programIn bytes) fold) .body)
+  body-headed h = let c = rules-are in rw (w .at fold here) (rule-part bytes (programIn bytes) b is fold (omega arith))
+
+  pub body-bare : contents .rules .count ≤ fold → BodyAt bytes (getD places fold 0 + 3) (foldPlace (programIn bytes) (fold + 1)) ((ruleAt (programIn bytes) fold) .body)
+  body-bare h = let c = rules-are in rw (w .at fold here) (integrity-part bytes (programIn bytes) b is fold (omega arith) here)

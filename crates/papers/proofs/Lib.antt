@@ -10,6 +10,7 @@ pub mod Accepted
 pub mod Encoded
 pub mod Sizes
 pub mod FoldLaws
+pub mod RuleLaws
 -- The same as the code meets them.
 pub mod FieldAnswers
 pub mod Walking

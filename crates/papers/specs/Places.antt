@@ -1,11 +1,15 @@
 -- Where the rules stand in a file, by fold number.
 use mathlib.Core.List.{List, _++_, map}
-use Prim.Native.Nat.{ℕ, _+_, _<_}
+use Prim.Native.Nat.{ℕ, _+_, _*_, _<_}
 use mathlib.Core.Path.{_≡_}
 use lib.ListN.{length, getD, take}
-use Rattle.papers.specs.Program.{Program}
+use Rattle.papers.specs.Program.{Rule, Program, allRules}
+use Rattle.papers.specs.declared.Contents.{Contents}
+use Rattle.papers.specs.declared.FileRead.the-variants.{Accepted}
+use Rattle.papers.specs.Field.{numbers}
+use Rattle.papers.specs.Reading.{readFile, programIn}
 use Rattle.papers.specs.Encoding.{ruleNumbers}
-use Rattle.papers.specs.Answers.{fieldsLength, rulesPlace}
+use Rattle.papers.specs.Answers.{fieldsLength, rulesPlace, fileAnswer}
 
 -- "Rules have fold numbers from 0 in file order; integrity rules go on from there": the numbers of each fold's field, 04 or 05.
 unfoldable pub fieldNumbers : Program → List (List ℕ)
@@ -15,6 +19,12 @@ fieldNumbers p = map ruleNumbers (p .rules) ++ p .integrity
 unfoldable pub foldPlace : Program → ℕ → ℕ
 foldPlace p i = rulesPlace p + fieldsLength (take i (fieldNumbers p))
 
--- A list of places holds each fold's, by its number.
-pub record PlacesOf (p : Program) (places : List ℕ) : Type 0 where
-  pub at : (i : ℕ) → i < length (fieldNumbers p) → getD places i 0 ≡ foldPlace p i
+-- An accepted file that is walked by fold number: what its reading answered, and the place of each fold's field.
+pub record Walked (bytes : List ℕ) (contents : Contents) (places : List ℕ) : Type 0 where
+  pub answer : fileAnswer (readFile bytes) ≡ Accepted contents
+  pub at : (fold : ℕ) → fold < length (allRules (programIn bytes)) → getD places fold 0 ≡ foldPlace (programIn bytes) fold
+
+-- These bytes are the literals of a body, two for each.
+pub record BodyOf (r : Rule) (bytes : List ℕ) : Type 0 where
+  pub literals : numbers bytes ≡ r .body
+  pub size : length bytes ≡ 2 * length (r .body)

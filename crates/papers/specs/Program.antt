@@ -1,6 +1,7 @@
 -- The abstract syntax of the two papers: what a file and a sheet say, without bytes.
-use mathlib.Core.List.{List, _++_, map}
+use mathlib.Core.List.{List, [], _++_, map}
 use Prim.Native.Nat.{ℕ, _*_}
+use lib.ListN.{getD}
 
 -- A rule: its head, an objective literal, and its body literals.
 pub record Rule : Type 0 where
@@ -25,3 +26,11 @@ denial n body = record { head = 2 * n; body = body }
 -- "Rules have fold numbers from 0 in file order; integrity rules go on from there": a fold number is an index here.
 unfoldable pub allRules : Program → List Rule
 allRules p = p .rules ++ map (denial (p .atoms)) (p .integrity)
+
+-- What stands past the last rule.
+abbrev pub noRule : Rule
+noRule = record { head = 0; body = [] }
+
+-- The rule with this fold number.
+abbrev pub ruleAt : Program → ℕ → Rule
+ruleAt p fold = getD (allRules p) fold noRule

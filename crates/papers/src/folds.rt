@@ -1,14 +1,14 @@
 // The rules of an accepted file, by their fold numbers: where their fields stand, and their bodies as
 // parts of the file.
 ghost use mathlib.Core.Path.{_≡_};
-ghost use mathlib.Core.Bool.{Bool, true, cond};
-ghost use Prim.Native.Nat.{_+_, _≤_, _<_};
-ghost use lib.ListN.{length, getD, drop};
+ghost use Prim.Native.Nat.{_+_, _<_};
+ghost use lib.ListN.{length, drop};
 ghost use Rattle.papers.specs.declared.FileRead.{FileRead};
-ghost use Rattle.papers.specs.Field.{number, sizeOf, contentOf};
+ghost use Rattle.papers.specs.Program.{allRules, ruleAt};
+ghost use Rattle.papers.specs.Field.{sizeOf};
 ghost use Rattle.papers.specs.Reading.{readFile, programIn};
 ghost use Rattle.papers.specs.Answers.{fileAnswer};
-ghost use Rattle.papers.specs.Places.{PlacesOf};
+ghost use Rattle.papers.specs.Places.{Walked, BodyOf};
 use crate::Contents;
 use crate::field::number_at;
 
@@ -20,25 +20,10 @@ fn field_end(file: &[u8], place: usize) -> usize
     place + 3 + number_at(file, place + 1)
 }
 
-// The body of the rule at a place: the content without the head of a rule, or all of an integrity rule's.
-pub fn body_at(file: &[u8], place: usize, headed: bool) -> &[u8]
-    requires { ⌜ (place + 3 + sizeOf (drop place (now file)) ≤ length (now file)) × (cond headed 2 0 ≤ sizeOf (drop place (now file))) ⌝ }
-    ensures { λ r. ⌜ now r ≡ drop (cond headed 2 0) (contentOf (drop place (now (file .entry)))) ⌝ }
-{
-    let end = field_end(file, place);
-    if headed {
-        let start = place + 5;
-        &file[start..end]
-    } else {
-        let start = place + 3;
-        &file[start..end]
-    }
-}
-
 // Where the field of each fold stands. There are at most 1,280.
 pub fn fold_places(file: &[u8], contents: Contents) -> [usize; 1280]
     requires { ⌜ fileAnswer (readFile (now file)) ≡ FileRead.Accepted contents ⌝ }
-    ensures { λ r. ⌜ PlacesOf (programIn (now (file .entry))) r ⌝ }
+    ensures { λ r. ⌜ Walked (now (file .entry)) contents r ⌝ }
 {
     let rules = contents.rules;
     let integrity = contents.integrity;
@@ -52,4 +37,39 @@ pub fn fold_places(file: &[u8], contents: Contents) -> [usize; 1280]
         i += 1;
     }
     places
+}
+
+// The head of the rule with this fold number; falsum's where it is an integrity rule.
+pub fn head_of(file: &[u8], contents: Contents, places: &[usize; 1280], fold: usize) -> usize
+    requires { ⌜ Walked (now file) contents (now places) × (fold < length (allRules (programIn (now file)))) ⌝ }
+    ensures { λ r. ⌜ (r ≡ (ruleAt (programIn (now (file .entry))) fold) .head) × (r < 513) ⌝ }
+{
+    let rules = contents.rules;
+    if fold < rules.count {
+        number_at(file, places[fold] + 3)
+    } else {
+        2 * (contents.atoms as usize)
+    }
+}
+
+// The body of the rule with this fold number, as a part of the file.
+pub fn body_of<'a, 'b>(
+    file: &'a [u8],
+    contents: Contents,
+    places: &'b [usize; 1280],
+    fold: usize,
+) -> &'a [u8]
+    requires { ⌜ Walked (now file) contents (now places) × (fold < length (allRules (programIn (now file)))) ⌝ }
+    ensures { λ r. ⌜ BodyOf (ruleAt (programIn (now (file .entry))) fold) (now r) ⌝ }
+{
+    let rules = contents.rules;
+    let place = places[fold];
+    let end = field_end(file, place);
+    if fold < rules.count {
+        let start = place + 5;
+        &file[start..end]
+    } else {
+        let start = place + 3;
+        &file[start..end]
+    }
 }

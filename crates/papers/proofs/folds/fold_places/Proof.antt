@@ -8,6 +8,7 @@ use native.Mathlib.Omega.{arith}
 use denote.Ref.{now}
 use Rattle.papers.specs.Reading.{programIn}
 use Rattle.papers.specs.Places.{foldPlace}
+use Rattle.papers.proofs.RuleLaws.{rules-count}
 use Rattle.papers.proofs.FoldAnswers.{folds-counted, few-folds, first-place, fold-heading, next-place}
 use Rattle.papers.proofs.folds.fold_places.Statement.{statement}
 use Rattle.papers.proofs.folds.fold_places.Tie as tie
@@ -49,7 +50,10 @@ loop-again c = (
 )
 
 returns : tie.Need-returns Inv-loop μ-loop
-returns c = record { at = λ i h. c .before .loop .inv .1 .1 .1 i (omega (arith, folds-counted (now (c .before .before .before .before .before .before .before .args .file)) (c .before .before .before .before .before .before .before .args .contents) (c .before .before .before .before .before .before .before .pre))) }
+returns c = record {
+  answer = c .before .before .before .before .before .before .before .pre;
+  at = λ fold h. c .before .loop .inv .1 .1 .1 fold (omega (arith, rules-count (programIn (now (c .before .before .before .before .before .before .before .args .file))), folds-counted (now (c .before .before .before .before .before .before .before .args .file)) (c .before .before .before .before .before .before .before .args .contents) (c .before .before .before .before .before .before .before .pre)));
+}
 
 pub fold-places-spec : {M : Type 1} → statement M
 fold-places-spec =

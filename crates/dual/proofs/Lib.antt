@@ -1,0 +1,5 @@
+-- Laws of the table: its bytes read back, its length and its bound; and of the folds and facts of a head.
+pub mod ReadBack
+pub mod Lengths
+pub mod Bound
+pub mod Folds

@@ -1,0 +1,5 @@
+-- Document 01, "The dual table": its fields, its bytes, reading them back, and what the writer answers.
+pub mod Table
+pub mod Encoding
+pub mod Length
+pub mod Answers

@@ -1,0 +1,3 @@
+-- Document 01, "Reference calls": the theorems, and the table of them.
+pub mod Example21
+pub mod Calls

@@ -1,0 +1,39 @@
+-- What has to unfold for a reference call to be computed: a theorem says `unfolding computing`.
+use Rattle.literals.specs.Numbering.{otherOfPair}
+use Rattle.papers.specs.Program.{allRules}
+use Rattle.papers.specs.Field.{numbers, sizeOf, contentOf, fewest, most, lengthAllowed, fieldFault, readField}
+use Rattle.papers.specs.Content.{editionFault, atomsFault, abduciblesFault, literalsFault, isAmong, ruleFault, bodyFault}
+use Rattle.papers.specs.Reading.{readEdition, readAtoms, readAbducibles, readRun, readEnd, ruleOf, readRules, readFile}
+use Rattle.papers.specs.Encoding.{encodeNumbers, encodeField, encodeRun, encodeFile}
+use Rattle.dual.specs.Table.{foldsFrom, foldsOf, isEmpty, isFact, hasEntry, foldField, entry, entriesFrom, dual}
+use Rattle.dual.specs.Encoding.{encodeFields, encodeDual}
+
+-- A file and its fields, as they are written,
+unfoldable encoding : Unit {0}
+unfolding encodeNumbers encodeField encodeRun encodeFile
+encoding = tt
+
+-- one field as it is read,
+unfoldable field : Unit {0}
+unfolding numbers sizeOf contentOf fewest most lengthAllowed fieldFault readField
+field = tt
+
+-- the tests of its content,
+unfoldable content : Unit {0}
+unfolding editionFault atomsFault abduciblesFault literalsFault isAmong ruleFault bodyFault
+content = tt
+
+-- the readers,
+unfoldable reading : Unit {0}
+unfolding field content readEdition readAtoms readAbducibles readRun readEnd ruleOf readRules readFile
+reading = tt
+
+-- the dual,
+unfoldable duality : Unit {0}
+unfolding encoding otherOfPair isAmong allRules foldsFrom foldsOf isEmpty isFact hasEntry foldField entry entriesFrom dual encodeFields encodeDual
+duality = tt
+
+-- and all of these.
+unfoldable pub computing : Unit {0}
+unfolding reading duality
+computing = tt
