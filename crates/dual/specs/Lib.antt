@@ -2,4 +2,5 @@
 pub mod Table
 pub mod Encoding
 pub mod Length
+pub mod Chains
 pub mod Answers

@@ -10,15 +10,15 @@ use Rattle.papers.specs.declared.Contents.{Contents}
 use Rattle.papers.specs.declared.FileRead.the-variants.{Accepted}
 use Rattle.papers.specs.Program.{allRules, ruleAt}
 use Rattle.papers.specs.Outcome.{accepted}
-use Rattle.papers.specs.Field.{number, sizeOf}
+use Rattle.papers.specs.Field.{number, numbers, sizeOf}
 use Rattle.papers.specs.Reading.{readFile, programIn}
 use Rattle.papers.specs.Answers.{contentsOf, fileAnswer}
 use Rattle.papers.specs.Places.{fieldNumbers, foldPlace, Walked, BodyOf}
 use Rattle.papers.specs.Valid.{Valid}
 use Rattle.papers.proofs.NumberLaws.{Bytes}
 use Rattle.papers.proofs.Accepted.{accepted-valid}
-use Rattle.papers.proofs.FoldLaws.{fold-count, fold-first, fold-next, fold-size, fold-within}
-use Rattle.papers.proofs.RuleLaws.{rules-count, integrity-head, head-within, BodyAt, rule-part, integrity-part, rule-head}
+use Rattle.papers.proofs.FoldLaws.{abducibles-content, abducibles-within, fold-count, fold-first, fold-next, fold-size, fold-within}
+use Rattle.papers.proofs.RuleLaws.{rules-count, rule-fitting, integrity-head, head-within, BodyAt, rule-part, integrity-part, rule-head}
 use Rattle.papers.proofs.Answered.{file-accepted}
 
 -- The answer of an accepted file tells of the program in it.
@@ -40,12 +40,28 @@ module _ (bytes : List ℕ) (contents : Contents) (answer : fileAnswer (readFile
       let i = ap (λ (x : Contents). x .integrity .count) (t .contents-are) in
       omega (arith, fold-count (programIn bytes))
 
+  pub rules-counted : contents .rules .count + contents .integrity .count ≡ length (allRules (programIn bytes))
+  rules-counted = folds-counted ∙ sym (rules-count (programIn bytes))
+
+  -- The abducibles are the numbers of the part of the file from place 12 on.
+  pub abducibles-there : Bytes bytes
+      → (12 + 2 * contents .abducibles ≤ length bytes) × (numbers (take (2 * contents .abducibles) (drop 12 bytes)) ≡ (programIn bytes) .abducibles)
+  abducibles-there b =
+      let t = told bytes contents answer in
+      let k : length ((programIn bytes) .abducibles) ≡ contents .abducibles = ap (λ (x : Contents). x .abducibles) (t .contents-are) in
+      let w = abducibles-within bytes (programIn bytes) b (t .is) in
+      (omega arith, rw k at (abducibles-content bytes (programIn bytes) b (t .is)))
+
   pub few-folds : contents .rules .count + contents .integrity .count ≤ 1280
   few-folds =
       let t = told bytes contents answer in
       let v = accepted-valid bytes (programIn bytes) (t .is) in
       let c = folds-counted in
       omega (arith, fold-count (programIn bytes), v .fewRules, v .fewIntegrity)
+
+  -- A body has at most 16 literals.
+  pub few-body : (fold : ℕ) → fold < length (allRules (programIn bytes)) → length ((ruleAt (programIn bytes) fold) .body) ≤ 16
+  few-body fold h = rule-fitting (programIn bytes) (accepted-valid bytes (programIn bytes) (told bytes contents answer .is)) fold h .body .few
 
   pub first-place : contents .rules .place ≡ foldPlace (programIn bytes) 0
   first-place = sym (fold-first (programIn bytes) ∙ ap (λ (x : Contents). x .rules .place) (told bytes contents answer .contents-are))

@@ -170,6 +170,20 @@ module _ (bytes : List ℕ) (p : Program) (b : Bytes bytes) (e : readFile bytes 
       → numbers (take (2 * length (getD (fieldNumbers p) i [])) (drop (foldPlace p i + 3) bytes)) ≡ getD (fieldNumbers p) i []
   fold-content i h = at-content (fold-field (file-tells bytes p e) b i h)
 
+  -- The abducibles' field stands at place 9.
+  pub abducibles-content : numbers (take (2 * length (p .abducibles)) (drop 12 bytes)) ≡ p .abducibles
+  abducibles-content =
+      let t = file-tells bytes p e in
+      let here : FieldAt 9 bytes (p .abducibles) = record {
+        tag = 0x03;
+        rest = drop (12 + 2 * length (p .abducibles)) bytes;
+        is = t .listed .written b;
+      } in
+      at-content here
+
+  pub abducibles-within : 12 + 2 * length (p .abducibles) ≤ length bytes
+  abducibles-within = file-tells bytes p e .listed .within
+
   -- ---- by rules and integrity rules
 
   module _ (i : ℕ) (d : Rule) (h : i < length (p .rules)) where

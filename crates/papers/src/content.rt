@@ -43,7 +43,7 @@ pub(crate) fn abducibles_fault(content: &[u8], atoms: u16) -> u8
     0
 }
 
-fn is_among(abducibles: &[u8], atom: usize) -> bool
+pub fn is_among(abducibles: &[u8], atom: usize) -> bool
     ensures { λ r. ⌜ r ≡ isAmong (numbers (now (abducibles .entry))) atom ⌝ }
 {
     let count = abducibles.len() / 2;

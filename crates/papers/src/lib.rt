@@ -1,6 +1,6 @@
 // The two papers: which bytes are a rule file and a query sheet, and under which number and place
 // any others are refused.
-mod content;
+pub mod content;
 pub mod field;
 pub mod folds;
 mod reading;

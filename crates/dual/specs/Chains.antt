@@ -1,0 +1,16 @@
+-- The folds of an objective literal, as a chain through a table of what comes next. 1,280 is no fold.
+use mathlib.Core.Path.{_≡_}
+use mathlib.Core.List.{List, [], _∷_}
+use Prim.Native.Nat.{ℕ, _<_}
+use lib.ListN.{getD}
+use Rattle.papers.specs.Program.{Program}
+use Rattle.dual.specs.Table.{foldsOf}
+
+-- From k on, the chain has these folds, rising.
+pub data Chain (next : List ℕ) : ℕ → List ℕ → Type 0 where
+  ends : {k : ℕ} → k ≡ 1280 → Chain next k []
+  link : {k : ℕ} {more : List ℕ} → k < 1280 → k < getD next k 0 → Chain next (getD next k 0) more → Chain next k (k ∷ more)
+
+-- Each objective literal's chain has its folds.
+pub record ChainsOf (p : Program) (first next : List ℕ) : Type 0 where
+  pub at : (o : ℕ) → o < 513 → Chain next (getD first o 0) (foldsOf p o)

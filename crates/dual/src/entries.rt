@@ -1,0 +1,63 @@
+// The entry of one objective literal: its length, and its fields.
+ghost use mathlib.Core.Path.{_≡_};
+ghost use mathlib.Core.Bool.{cond};
+ghost use Prim.Native.Nat.{_+_, _*_, _<_, _≤_};
+ghost use Rattle.papers.specs.Program.{allRules};
+ghost use Rattle.papers.specs.Reading.{programIn};
+ghost use Rattle.papers.specs.Places.{Walked};
+ghost use Rattle.dual.specs.Table.{hasEntry, isFact};
+ghost use Rattle.dual.specs.Length.{rulesLength, dualLength};
+ghost use Rattle.dual.specs.Chains.{ChainsOf};
+use papers::Contents;
+
+// The bytes of an objective literal's entry, by its rules; 0 where it has none, since one of them is a fact.
+fn rules_length(file: &[u8], contents: Contents, places: &[usize; 1280], first: &[usize; 513], next: &[usize; 1280], o: usize) -> usize
+    requires { ⌜ Walked (now file) contents (now places) × (ChainsOf (programIn (now file)) (now first) (now next) × (o < 513)) ⌝ }
+    ensures { λ r. ⌜ (r ≡ cond (isFact (allRules (programIn (now (file .entry)))) o) 0 (5 + rulesLength (allRules (programIn (now (file .entry)))) o)) × (r < 65536) ⌝ }
+{
+    let mut fold = first[o];
+    let mut total: usize = 5;
+    while fold < 1280 {
+        let body = papers::folds::body_of(file, contents, places, fold);
+        if body.len() == 0 {
+            return 0;
+        }
+        total = total + 7 + body.len();
+        fold = next[fold];
+    }
+    total
+}
+
+// The bytes of an objective literal's entry, 0 where it has none.
+pub(crate) fn entry_length(
+    file: &[u8],
+    contents: Contents,
+    places: &[usize; 1280],
+    first: &[usize; 513],
+    next: &[usize; 1280],
+    o: usize,
+) -> usize
+    requires { ⌜ Walked (now file) contents (now places) × (ChainsOf (programIn (now file)) (now first) (now next) × (o < 513)) ⌝ }
+    ensures { λ r. ⌜ (r ≡ cond (hasEntry (programIn (now (file .entry))) o) (5 + rulesLength (allRules (programIn (now (file .entry)))) o) 0) × (r < 65536) ⌝ }
+{
+    let end = 12 + 2 * contents.abducibles;
+    if papers::content::is_among(&file[12..end], o / 2) {
+        return 0;
+    }
+    rules_length(file, contents, places, first, next, o)
+}
+
+// The length of the dual.
+pub(crate) fn dual_length(file: &[u8], contents: Contents, places: &[usize; 1280], first: &[usize; 513], next: &[usize; 1280]) -> usize
+    requires { ⌜ Walked (now file) contents (now places) × ChainsOf (programIn (now file)) (now first) (now next) ⌝ }
+    ensures { λ r. ⌜ r ≡ dualLength (programIn (now (file .entry))) ⌝ }
+{
+    let judged = 2 * (contents.atoms as usize) + 1;
+    let mut total: usize = 0;
+    let mut o: usize = 0;
+    while o < judged {
+        total += entry_length(file, contents, places, first, next, o);
+        o += 1;
+    }
+    total + 3
+}
