@@ -2,17 +2,17 @@
 -- Assumes nothing.
 use mathlib.Core.Path.{_≡_, refl, sym, ap, subst, _∙_}
 use mathlib.Core.Bool.{cond}
-use mathlib.Core.List.{List, [], _∷_}
-use Prim.Native.Nat.{ℕ, suc, _+_, _≤_, _<_}
+use mathlib.Core.List.{List, [], _∷_, _++_, append-assoc, append-nil}
+use Prim.Native.Nat.{ℕ, zero, suc, _+_, _≤_, _<_}
 use native.Mathlib.Decide.{ℕ-discrete}
 use native.Mathlib.Numerals.{add-one}
 use native.Mathlib.Omega.{arith}
-use borrow.Author.Tests.{eq-eqb, ne-eqb}
-use lib.ListN.{length, getD, drop, set, replicate, length-set, length-replicate, getD-replicate}
+use borrow.Author.Tests.{eq-eqb, ne-eqb, lt-ltb, le-ltb}
+use lib.ListN.{length, getD, drop, set, replicate, length-append, length-set, length-replicate, getD-replicate}
 use lib.Seq.{drop-cons, drop-length, getD-set-same, getD-set-other}
 use Rattle.papers.specs.Program.{Rule, Program, allRules, noRule}
 use Rattle.dual.specs.Table.{foldsFrom, foldsOf}
-use Rattle.dual.specs.Chains.{Chain, ends, link, ChainsOf}
+use Rattle.dual.specs.Chains.{Chain, ends, link, followed, ChainsOf}
 
 -- What comes before a chain's start does not matter to it.
 frame : {next : List ℕ} {k : ℕ} {l : List ℕ} (i v : ℕ) → i < k → Chain next k l → Chain (set next i v) k l
@@ -104,3 +104,52 @@ past-last (link few rises rest) h = absurd (omega arith)
 pub chain-few : {next : List ℕ} {k : ℕ} {l : List ℕ} → Chain next k l → k ≤ 1280
 chain-few (ends e) = omega arith
 chain-few (link few rises rest) = omega arith
+
+-- The folds that are met are those of the chain.
+pub followed-is : {next : List ℕ} {l : List ℕ} (room k : ℕ) → 1280 ≤ room + k → Chain next k l → followed room next k ≡ l
+unfolding followed
+followed-is zero k h (ends e) = refl
+followed-is (suc room) k h (ends e) = rw (le-ltb k 1280 (omega arith))
+followed-is zero k h (link few rises rest) = absurd (omega arith)
+followed-is {next} (suc room) k h (link few rises rest) = rw (lt-ltb k 1280 few) (ap (λ (x : List ℕ). k ∷ x) (followed-is room (getD next k 0) (omega arith) rest))
+
+-- A walk along a chain: what lies behind, and what is ahead.
+pub record Following (next l : List ℕ) (fold count : ℕ) : Type 0 where
+  pub done : List ℕ
+  pub ahead : List ℕ
+  pub split : l ≡ done ++ ahead
+  pub chain : Chain next fold ahead
+  pub size : length done ≡ count
+  pub few : count ≤ fold
+
+unfoldable pub following-starts : {next l : List ℕ} {k : ℕ} → Chain next k l → Following next l k 0
+following-starts {next} {l} {k} c = record { done = []; ahead = l; split = refl; chain = c; size = refl; few = omega arith }
+
+module _ (next l : List ℕ) (fold count : ℕ) (w : Following next l fold count) where
+  pub following-done : 1280 ≤ fold → (w .done ≡ l) × ((count ≡ length l) × (count ≤ 1280))
+  following-done h =
+      let p = past-last (w .chain) h in
+      let d : l ≡ w .done = w .split ∙ ap (λ (x : List ℕ). w .done ++ x) (p .0) ∙ append-nil (w .done) in
+      let s = ap length d in
+      (sym d, (omega (arith, w .size), omega (arith, w .few, p .1)))
+
+  module _ (here : fold < 1280) where
+    pub following-link : Link next fold (w .ahead)
+    following-link = at-fold (w .chain) here
+
+    -- There is one more fold in all.
+    pub following-room : count < length l
+    following-room =
+        let s = ap length (w .split) in
+        let n = ap length (following-link .is) in
+        omega (arith, length-append (w .done) (w .ahead), w .size)
+
+    unfoldable pub following-next : Following next l (getD next fold 0) (count + 1)
+    following-next = record {
+      done = w .done ++ fold ∷ [];
+      ahead = following-link .more;
+      split = w .split ∙ ap (λ (x : List ℕ). w .done ++ x) (following-link .is) ∙ sym (append-assoc (w .done) (fold ∷ []) (following-link .more));
+      chain = following-link .rest;
+      size = simp length-append (omega (arith, w .size));
+      few = omega (arith, w .few, following-link .rises);
+    }

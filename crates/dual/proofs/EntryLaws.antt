@@ -84,7 +84,7 @@ walk-starts p first next o c h = record {
   bound = omega arith;
 }
 
-first-of : {P : ℕ → Type 0} {k : ℕ} {l : List ℕ} → All P (k ∷ l) → P k × All P l
+pub first-of : {P : ℕ → Type 0} {k : ℕ} {l : List ℕ} → All P (k ∷ l) → P k × All P l
 first-of (each p rest) = (p, rest)
 
 module _ (p : Program) (next : List ℕ) (o fold total : ℕ) (w : Walking p next o fold total) where

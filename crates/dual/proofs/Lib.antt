@@ -5,4 +5,7 @@ pub mod Bound
 pub mod Folds
 pub mod FileFacts
 pub mod ChainLaws
+pub mod FilledLaws
+pub mod WritingLaws
+pub mod EntryWriting
 pub mod EntryLaws

@@ -5,9 +5,14 @@ ghost use Prim.Native.Nat.{_+_, _*_, _<_, _≤_};
 ghost use Rattle.papers.specs.Program.{allRules};
 ghost use Rattle.papers.specs.Reading.{programIn};
 ghost use Rattle.papers.specs.Places.{Walked};
-ghost use Rattle.dual.specs.Table.{hasEntry, isFact};
+ghost use lib.ListN.{length};
+ghost use Rattle.dual.specs.Table.{hasEntry, isFact, entry};
+ghost use Rattle.dual.specs.Encoding.{encodeFields};
+ghost use Rattle.dual.specs.Answers.{filled};
 ghost use Rattle.dual.specs.Length.{rulesLength, dualLength};
 ghost use Rattle.dual.specs.Chains.{ChainsOf};
+use crate::writing::write_fold;
+use crate::writing::write_literal;
 use papers::Contents;
 
 // The bytes of an objective literal's entry, by its rules; 0 where it has none, since one of them is a fact.
@@ -60,4 +65,30 @@ pub(crate) fn dual_length(file: &[u8], contents: Contents, places: &[usize; 1280
         o += 1;
     }
     total + 3
+}
+
+// The entry of an objective literal: its field, then that of each of its folds, each into the part of the buffer that
+// begins where the one before ended.
+fn write_entry(
+    buffer: &mut [u8],
+    file: &[u8],
+    contents: Contents,
+    places: &[usize; 1280],
+    first: &[usize; 513],
+    next: &[usize; 1280],
+    o: usize,
+) -> usize
+    requires { ⌜ Walked (now file) contents (now places) × (ChainsOf (programIn (now file)) (now first) (now next) × ((o < 513) × (length (encodeFields (entry (programIn (now file)) o)) ≤ length (now buffer)))) ⌝ }
+    ensures { λ r. ⌜ (r ≡ length (encodeFields (entry (programIn (now (file .entry))) o))) × (now (buffer .exit) ≡ filled (encodeFields (entry (programIn (now (file .entry))) o)) (now (buffer .entry))) ⌝ }
+{
+    let start = first[o];
+    let mut end = write_literal(buffer, next, start, o);
+    let mut fold = start;
+    while fold < 1280 {
+        let body = papers::folds::body_of(file, contents, places, fold);
+        let size = write_fold(&mut buffer[end..], fold, body);
+        end += size;
+        fold = next[fold];
+    }
+    end
 }

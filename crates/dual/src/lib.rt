@@ -1,6 +1,7 @@
 // The dual table of a rule file, written into a lent buffer.
 mod chains;
 mod entries;
+mod writing;
 
 use papers::Refusal;
 
