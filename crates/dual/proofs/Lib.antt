@@ -8,4 +8,5 @@ pub mod ChainLaws
 pub mod FilledLaws
 pub mod WritingLaws
 pub mod EntryWriting
+pub mod TableWriting
 pub mod EntryLaws

@@ -45,10 +45,13 @@ foldField rules k = fold k (map defaultConjugate ((getD rules k noRule) .body))
 unfoldable pub entry : Program → ℕ → List Field
 entry p o = literal o (foldsOf p o) ∷ map (foldField (allRules p)) (foldsOf p o)
 
+abbrev pub entryIfAny : Program → ℕ → List Field
+entryIfAny p o = cond (hasEntry p o) (entry p o) []
+
 -- The entries of `count` objective literals from o on.
 unfoldable pub entriesFrom : Program → ℕ → ℕ → List Field
 entriesFrom p zero o = []
-entriesFrom p (suc count) o = cond (hasEntry p o) (entry p o) [] ++ entriesFrom p count (o + 1)
+entriesFrom p (suc count) o = entryIfAny p o ++ entriesFrom p count (o + 1)
 
 -- "For each objective literal rising, falsum last": 0 to 2n. Part (d), the coherence rules, is implied.
 unfoldable pub dual : Program → List Field

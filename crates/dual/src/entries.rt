@@ -6,7 +6,7 @@ ghost use Rattle.papers.specs.Program.{allRules};
 ghost use Rattle.papers.specs.Reading.{programIn};
 ghost use Rattle.papers.specs.Places.{Walked};
 ghost use lib.ListN.{length};
-ghost use Rattle.dual.specs.Table.{hasEntry, isFact, entry};
+ghost use Rattle.dual.specs.Table.{hasEntry, isFact, entry, entryIfAny, dual};
 ghost use Rattle.dual.specs.Encoding.{encodeFields};
 ghost use Rattle.dual.specs.Answers.{filled};
 ghost use Rattle.dual.specs.Length.{rulesLength, dualLength};
@@ -89,6 +89,48 @@ fn write_entry(
         let size = write_fold(&mut buffer[end..], fold, body);
         end += size;
         fold = next[fold];
+    }
+    end
+}
+
+// The same where it has an entry, and nothing where it has none.
+fn write_any_entry(
+    buffer: &mut [u8],
+    file: &[u8],
+    contents: Contents,
+    places: &[usize; 1280],
+    first: &[usize; 513],
+    next: &[usize; 1280],
+    o: usize,
+) -> usize
+    requires { ⌜ Walked (now file) contents (now places) × (ChainsOf (programIn (now file)) (now first) (now next) × ((o < 513) × (length (encodeFields (entryIfAny (programIn (now file)) o)) ≤ length (now buffer)))) ⌝ }
+    ensures { λ r. ⌜ (r ≡ length (encodeFields (entryIfAny (programIn (now (file .entry))) o))) × (now (buffer .exit) ≡ filled (encodeFields (entryIfAny (programIn (now (file .entry))) o)) (now (buffer .entry))) ⌝ }
+{
+    if entry_length(file, contents, places, first, next, o) == 0 {
+        return 0;
+    }
+    write_entry(buffer, file, contents, places, first, next, o)
+}
+
+// The entries of all objective literals, falsum's last.
+pub(crate) fn write_entries(
+    buffer: &mut [u8],
+    file: &[u8],
+    contents: Contents,
+    places: &[usize; 1280],
+    first: &[usize; 513],
+    next: &[usize; 1280],
+) -> usize
+    requires { ⌜ Walked (now file) contents (now places) × (ChainsOf (programIn (now file)) (now first) (now next) × (dualLength (programIn (now file)) ≤ length (now buffer))) ⌝ }
+    ensures { λ r. ⌜ (r ≡ length (encodeFields (dual (programIn (now (file .entry)))))) × (now (buffer .exit) ≡ filled (encodeFields (dual (programIn (now (file .entry))))) (now (buffer .entry))) ⌝ }
+{
+    let judged = 2 * (contents.atoms as usize) + 1;
+    let mut end: usize = 0;
+    let mut o: usize = 0;
+    while o < judged {
+        let size = write_any_entry(&mut buffer[end..], file, contents, places, first, next, o);
+        end += size;
+        o += 1;
     }
     end
 }

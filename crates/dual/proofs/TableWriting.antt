@@ -1,0 +1,105 @@
+-- All entries, as the loop that writes them meets them; and the end.
+-- Assumes nothing.
+use mathlib.Core.Path.{_≡_, refl, sym, ap, _∙_}
+use mathlib.Core.Bool.{Bool, true, false, cond}
+use mathlib.Core.List.{List, [], _∷_, _++_, append-assoc, append-nil}
+use Prim.Native.Nat.{ℕ, zero, suc, _+_, _-_, _*_, _≤_, _<_}
+use native.Mathlib.Omega.{arith}
+use lib.ListN.{length, take, drop, set, length-append}
+use Rattle.literals.specs.Numbering.{judged}
+use Rattle.papers.specs.Program.{Program, allRules}
+use Rattle.papers.specs.Encoding.{encodeField}
+use Rattle.dual.specs.Table.{Field, hasEntry, entry, entryIfAny, entriesFrom, dual}
+use Rattle.dual.specs.Encoding.{encodeFields, encodeDual}
+use Rattle.dual.specs.Length.{rulesLength, dualLength}
+use Rattle.dual.specs.Answers.{filled}
+use Rattle.dual.proofs.Lengths.{entry-length, dual-length}
+use Rattle.dual.proofs.ReadBack.{encodeFields-append}
+use Rattle.dual.proofs.FilledLaws.{filled-length, filled-part}
+
+-- ---- one objective literal
+
+-- The length tells whether there is an entry.
+module _ (p : Program) (o : ℕ) {size : ℕ} (is : size ≡ cond (hasEntry p o) (5 + rulesLength (allRules p) o) 0) where
+  pub no-entry : size ≡ 0 → entryIfAny p o ≡ []
+  no-entry z = go (hasEntry p o) refl (sym is ∙ z) where
+    go : (b : Bool) → hasEntry p o ≡ b → cond b (5 + rulesLength (allRules p) o) 0 ≡ 0 → cond b (entry p o) [] ≡ []
+    go true e h = absurd (omega arith)
+    go false e h = refl
+
+  pub some-entry : (size ≡ 0 → ⊥) → entryIfAny p o ≡ entry p o
+  some-entry n = go (hasEntry p o) is where
+    go : (b : Bool) → size ≡ cond b (5 + rulesLength (allRules p) o) 0 → cond b (entry p o) [] ≡ entry p o
+    go true h = refl
+    go false h = absurd (n h)
+
+-- ---- all of them
+
+module _ (p : Program) where
+  entries-split : (a b o : ℕ) → entriesFrom p (a + b) o ≡ entriesFrom p a o ++ entriesFrom p b (o + a)
+  unfolding entriesFrom
+  entries-split zero b o =
+      let e : zero + b ≡ b = omega arith in
+      let f : o + 0 ≡ o = omega arith in
+      rw (e, f)
+  entries-split (suc a) b o =
+      let e : suc a + b ≡ suc (a + b) = omega arith in
+      let f : o + 1 + a ≡ o + suc a = omega arith in
+      rw e (ap (λ (l : List Field). entryIfAny p o ++ l) (entries-split a b (o + 1)) ∙ sym (append-assoc (entryIfAny p o) (entriesFrom p a (o + 1)) (entriesFrom p b (o + 1 + a)))) ∙ ap (λ (k : ℕ). (entryIfAny p o ++ entriesFrom p a (o + 1)) ++ entriesFrom p b k) f
+
+  entries-more : (o : ℕ) → entriesFrom p (o + 1) 0 ≡ entriesFrom p o 0 ++ entryIfAny p o
+  unfolding entriesFrom
+  entries-more o =
+      let f : 0 + o ≡ o = omega arith in
+      entries-split o 1 0 ∙ ap (λ (k : ℕ). entriesFrom p o 0 ++ (entryIfAny p k ++ [])) f ∙ ap (λ (l : List Field). entriesFrom p o 0 ++ l) (append-nil (entryIfAny p o))
+
+  bytes-more : (o : ℕ) → encodeFields (entriesFrom p (o + 1) 0) ≡ encodeFields (entriesFrom p o 0) ++ encodeFields (entryIfAny p o)
+  bytes-more o = ap encodeFields (entries-more o) ∙ encodeFields-append (entriesFrom p o 0) (entryIfAny p o)
+
+  pub table-length : length (encodeFields (dual p)) + 3 ≡ dualLength p
+  unfolding encodeDual encodeField
+  table-length = let a = length-append (encodeFields (dual p)) (0x7F ∷ 0 ∷ 0 ∷ []) in let b = dual-length p in omega arith
+
+  -- There is room for one more.
+  pub table-room : (count o : ℕ) → count ≡ judged (p .atoms) → o < count → length (encodeFields (entriesFrom p o 0)) + length (encodeFields (entryIfAny p o)) + 3 ≤ dualLength p
+  unfolding dual
+  table-room count o e h =
+      let m = ap length (bytes-more o) ∙ length-append (encodeFields (entriesFrom p o 0)) (encodeFields (entryIfAny p o)) in
+      let s : o + 1 + (count - (o + 1)) ≡ judged (p .atoms) = omega arith in
+      let q = ap length (ap encodeFields (ap (λ (k : ℕ). entriesFrom p k 0) (sym s) ∙ entries-split (o + 1) (count - (o + 1)) 0) ∙ encodeFields-append (entriesFrom p (o + 1) 0) (entriesFrom p (count - (o + 1)) (0 + (o + 1)))) in
+      let r = length-append (encodeFields (entriesFrom p (o + 1) 0)) (encodeFields (entriesFrom p (count - (o + 1)) (0 + (o + 1)))) in
+      let t = table-length in
+      omega arith
+
+-- ---- the loop
+
+pub record Tabled (p : Program) (start buffer : List ℕ) (o end : ℕ) : Type 0 where
+  pub ends : end ≡ length (encodeFields (entriesFrom p o 0))
+  pub written : buffer ≡ filled (encodeFields (entriesFrom p o 0)) start
+
+pub tabled-none : (p : Program) (start : List ℕ) → Tabled p start start 0 0
+unfolding entriesFrom encodeFields
+tabled-none p start = record { ends = refl; written = refl }
+
+pub tabled-more : (p : Program) (start buffer : List ℕ) (o end : ℕ) → Tabled p start buffer o end → (part : List ℕ) (size : ℕ)
+    → part ≡ filled (encodeFields (entryIfAny p o)) (drop end buffer) → size ≡ length (encodeFields (entryIfAny p o))
+    → Tabled p start (take end buffer ++ part) (o + 1) (end + size)
+tabled-more p start buffer o end w part size q s =
+    let bytes = encodeFields (entriesFrom p o 0) in
+    let more = encodeFields (entryIfAny p o) in
+    let m = bytes-more p o in
+    let l = ap length m ∙ length-append bytes more in
+    record {
+      ends = omega (arith, w .ends);
+      written =
+          ap (λ (x : List ℕ). take end buffer ++ x) q
+          ∙ ap (λ (x : List ℕ). take end x ++ filled more (drop end x)) (w .written)
+          ∙ ap (λ (k : ℕ). take k (filled bytes start) ++ filled more (drop k (filled bytes start))) (w .ends)
+          ∙ filled-part bytes more start
+          ∙ ap (λ (x : List ℕ). filled x start) (sym m);
+    }
+
+pub tabled-done : (p : Program) (start buffer : List ℕ) (o end : ℕ) → Tabled p start buffer o end → o ≡ judged (p .atoms)
+    → (end ≡ length (encodeFields (dual p))) × (buffer ≡ filled (encodeFields (dual p)) start)
+unfolding dual
+tabled-done p start buffer o end w e = (rw e at (w .ends), rw e at (w .written))
