@@ -1,7 +1,6 @@
 -- The chains of folds, as the pass that links them meets them.
 -- Assumes nothing.
 use mathlib.Core.Path.{_≡_, refl, sym, ap, subst, _∙_}
-use mathlib.Core.Bool.{cond}
 use mathlib.Core.List.{List, [], _∷_, _++_, append-assoc, append-nil}
 use Prim.Native.Nat.{ℕ, zero, suc, _+_, _≤_, _<_}
 use native.Mathlib.Decide.{ℕ-discrete}
@@ -57,7 +56,7 @@ module _ (rules : List Rule) (fold : ℕ) (here : fold < length rules) where
         let there : getD (set first head fold) o 0 ≡ fold = rw e (getD-set-same first head fold 0 (omega (arith, linked .firsts))) in
         let after : getD (set next fold (getD first head 0)) fold 0 ≡ getD first head 0 = getD-set-same next fold (getD first head 0) 0 (omega (arith, linked .nexts)) in
         let rest : Chain (set next fold (getD first head 0)) (getD first head 0) (foldsFrom (fold + 1) (drop (fold + 1) rules) head) =
-            frame fold (getD first head 0) (omega (arith, linked .above head within)) (linked .at head within) in
+        frame fold (getD first head 0) (omega (arith, linked .above head within)) (linked .at head within) in
         rw (there, folds-same o (sym headed ∙ sym e), e) (link {more = foldsFrom (fold + 1) (drop (fold + 1) rules) head} few (omega (arith, linked .above head within)) (rw after rest))
 
     kept : (o : ℕ) → o < 513 → (o ≡ head → ⊥) → Chain (set next fold (getD first head 0)) (getD (set first head fold) o 0) (foldsFrom fold (drop fold rules) o)
@@ -70,13 +69,13 @@ module _ (rules : List Rule) (fold : ℕ) (here : fold < length rules) where
       firsts = simp length-set (linked .firsts);
       nexts = simp length-set (linked .nexts);
       above = λ o h. elim (ℕ-discrete o head) [
-          yes e ↦ (let there : getD (set first head fold) o 0 ≡ fold = rw e (getD-set-same first head fold 0 (omega (arith, linked .firsts))) in omega arith)
+        | yes e ↦ (let there : getD (set first head fold) o 0 ≡ fold = rw e (getD-set-same first head fold 0 (omega (arith, linked .firsts))) in omega arith)
         | no e ↦ (let there = getD-set-other first head o fold 0 e in omega (arith, linked .above o h))
-        ];
+      ];
       at = λ o h. elim (ℕ-discrete o head) [
-          yes e ↦ joined o e
+        | yes e ↦ joined o e
         | no e ↦ kept o h e
-        ];
+      ];
     }
 
 pub linked-all : (p : Program) (first next : List ℕ) → Linked (allRules p) 0 first next → ChainsOf p first next

@@ -15,7 +15,7 @@ use Rattle.dual.specs.Table.{foldsFrom, foldsOf, isEmpty, isFact, hasEnt
 use Rattle.dual.specs.Length.{ruleLength, rulesLength, entriesLength}
 use Rattle.dual.specs.Chains.{Chain, ChainsOf}
 use Rattle.dual.proofs.Folds.{FoldIn, folds-of-tell}
-use Rattle.dual.proofs.ChainLaws.{Link, at-fold, past-last, chain-few}
+use Rattle.dual.proofs.ChainLaws.{Link, at-fold, past-last}
 
 pub empty-length : (l : List ℕ) → length l ≡ 0 → isEmpty l ≡ true
 unfolding isEmpty

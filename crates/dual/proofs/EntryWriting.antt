@@ -2,16 +2,15 @@
 -- Assumes nothing.
 use mathlib.Core.Path.{_≡_, refl, sym, ap, subst, _∙_}
 use mathlib.Core.List.{List, [], _∷_, _++_, map, append-assoc, append-nil}
-use Prim.Native.Nat.{ℕ, _+_, _-_, _*_, _≤_, _<_}
+use Prim.Native.Nat.{ℕ, _+_, _*_, _≤_, _<_}
 use native.Mathlib.Omega.{arith}
 use lib.ListN.{length, getD, take, drop, length-append, length-map}
 use lib.Seq.{length-take-le}
 use Rattle.literals.specs.Numbering.{defaultConjugate}
 use Rattle.papers.specs.Program.{Rule, Program, allRules, noRule}
-use Rattle.papers.specs.Field.{numbers}
 use Rattle.papers.specs.Encoding.{encodeNumbers, encodeField}
-use Rattle.papers.specs.Valid.{All, each}
-use Rattle.dual.specs.Table.{Field, literal, foldsOf, foldField, entry}
+use Rattle.papers.specs.Valid.{All}
+use Rattle.dual.specs.Table.{literal, foldsOf, foldField, entry}
 use Rattle.dual.specs.Table as table
 use Rattle.dual.specs.Encoding.{encodeFields}
 use Rattle.dual.specs.Chains.{Chain, foldsAt, ChainsOf}

@@ -1,9 +1,8 @@
 -- A buffer that is filled from its start: one byte more, one number more, one part more.
 -- Assumes nothing.
 use mathlib.Core.Path.{_≡_, refl, sym, ap, _∙_}
-use mathlib.Core.List.{List, [], _∷_, _++_, map, append-assoc, append-nil}
+use mathlib.Core.List.{List, [], _∷_, _++_, append-assoc, append-nil}
 use Prim.Native.Nat.{ℕ, suc, _+_, _-_, _*_, _/_, _%_, _≤_, _<_}
-use native.Mathlib.Numerals.{add-one}
 use native.Mathlib.Omega.{arith}
 use lib.ListN.{length, getD, take, drop, set, length-append, length-drop, take-append-drop, drop-of-length-le}
 use borrow.Rule.Slice.PartMut.{putMid}
@@ -102,3 +101,10 @@ put-end end buffer part =
 
 pub part-end : (end : ℕ) (buffer : List ℕ) → take (length buffer - end) (drop end buffer) ≡ drop end buffer
 part-end end buffer = take-all (length buffer - end) (drop end buffer) (omega (arith, length-drop end buffer))
+
+-- Three bytes, one by one.
+pub filled-three : (buffer : List ℕ) (x y z : ℕ) → 2 < length buffer → set (set (set buffer 0 x) 1 y) 2 z ≡ filled (x ∷ y ∷ z ∷ []) buffer
+filled-three [] x y z h = absurd (omega arith)
+filled-three (a ∷ []) x y z h = absurd (omega arith)
+filled-three (a ∷ b ∷ []) x y z h = absurd (omega arith)
+filled-three (a ∷ b ∷ c ∷ l) x y z h = refl

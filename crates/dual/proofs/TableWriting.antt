@@ -3,19 +3,24 @@
 use mathlib.Core.Path.{_≡_, refl, sym, ap, _∙_}
 use mathlib.Core.Bool.{Bool, true, false, cond}
 use mathlib.Core.List.{List, [], _∷_, _++_, append-assoc, append-nil}
-use Prim.Native.Nat.{ℕ, zero, suc, _+_, _-_, _*_, _≤_, _<_}
+use Prim.Native.Nat.{ℕ, zero, suc, _+_, _-_, _≤_, _<_}
 use native.Mathlib.Omega.{arith}
-use lib.ListN.{length, take, drop, set, length-append}
+use borrow.Author.Tests.{le-leb, lt-leb}
+use lib.Dec.{leb}
+use lib.ListN.{length, take, drop, length-append}
 use Rattle.literals.specs.Numbering.{judged}
 use Rattle.papers.specs.Program.{Program, allRules}
+use Rattle.papers.specs.Outcome.{accepted}
+use Rattle.papers.specs.Reading.{readFile}
 use Rattle.papers.specs.Encoding.{encodeField}
 use Rattle.dual.specs.Table.{Field, hasEntry, entry, entryIfAny, entriesFrom, dual}
 use Rattle.dual.specs.Encoding.{encodeFields, encodeDual}
 use Rattle.dual.specs.Length.{rulesLength, dualLength}
-use Rattle.dual.specs.Answers.{filled}
-use Rattle.dual.proofs.Lengths.{entry-length, dual-length}
+use Rattle.dual.specs.declared.DualWritten.the-variants.{Length, Short}
+use Rattle.dual.specs.Answers.{dualOf, dualAnswer, filled, dualAfter}
+use Rattle.dual.proofs.Lengths.{dual-length}
 use Rattle.dual.proofs.ReadBack.{encodeFields-append}
-use Rattle.dual.proofs.FilledLaws.{filled-length, filled-part}
+use Rattle.dual.proofs.FilledLaws.{filled-part}
 
 -- ---- one objective literal
 
@@ -103,3 +108,30 @@ pub tabled-done : (p : Program) (start buffer : List ℕ) (o end : ℕ) → Tabl
     → (end ≡ length (encodeFields (dual p))) × (buffer ≡ filled (encodeFields (dual p)) start)
 unfolding dual
 tabled-done p start buffer o end w e = (rw e at (w .ends), rw e at (w .written))
+
+-- ---- the end, and the answer
+
+pub end-written : (p : Program) (start buffer part : List ℕ) (end : ℕ) → end ≡ length (encodeFields (dual p)) → buffer ≡ filled (encodeFields (dual p)) start
+    → part ≡ filled (encodeField 0x7F []) (drop end buffer) → take end buffer ++ part ≡ filled (dualOf p) start
+unfolding encodeDual
+end-written p start buffer part end e w q =
+    let bytes = encodeFields (dual p) in
+    ap (λ (x : List ℕ). take end buffer ++ x) q
+    ∙ ap (λ (x : List ℕ). take end x ++ filled (encodeField 0x7F []) (drop end x)) w
+    ∙ ap (λ (k : ℕ). take k (filled bytes start) ++ filled (encodeField 0x7F []) (drop k (filled bytes start))) e
+    ∙ filled-part bytes (encodeField 0x7F []) start
+
+module _ (bytes buffer : List ℕ) (p : Program) (is : readFile bytes ≡ accepted p) {size : ℕ} (sized : size ≡ dualLength p) where
+  same-size : length (dualOf p) ≡ size
+  same-size = dual-length p ∙ sym sized
+
+  pub dual-short : length buffer < size → (Short ≡ dualAnswer (readFile bytes) (length buffer)) × (buffer ≡ dualAfter (readFile bytes) buffer)
+  dual-short h =
+      let t : leb (length (dualOf p)) (length buffer) ≡ false = rw same-size (lt-leb size (length buffer) h) in
+      (rw (is, t), rw (is, t))
+
+  pub dual-fits : size ≤ length buffer → (after : List ℕ) → after ≡ filled (dualOf p) buffer
+      → (Length size ≡ dualAnswer (readFile bytes) (length buffer)) × (after ≡ dualAfter (readFile bytes) buffer)
+  dual-fits h after e =
+      let t : leb (length (dualOf p)) (length buffer) ≡ true = rw same-size (le-leb size (length buffer) h) in
+      (rw (is, t) (ap Length (sym same-size)), rw (is, t) e)

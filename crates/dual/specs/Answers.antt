@@ -1,10 +1,9 @@
 -- What writing the dual answers, by document 01's numbers, and what the lent buffer then holds.
-use mathlib.Core.Bool.{Bool, true, false, cond}
+use mathlib.Core.Bool.{cond}
 use mathlib.Core.List.{List, _++_}
 use Prim.Native.Nat.{ℕ}
 use lib.Dec.{leb}
 use lib.ListN.{length, drop}
-use Rattle.papers.specs.declared.Refusal.{Refusal}
 use Rattle.papers.specs.Program.{Program}
 use Rattle.papers.specs.Outcome.{Outcome, accepted, refused}
 use Rattle.dual.specs.declared.DualWritten.{DualWritten}

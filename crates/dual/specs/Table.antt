@@ -1,7 +1,7 @@
 -- The dual table: Definition 3.1 of document 000, as document 01 writes it.
 use mathlib.Core.Bool.{Bool, true, false, not, _&&_, cond}
 use mathlib.Core.List.{List, [], _∷_, _++_, map}
-use Prim.Native.Nat.{ℕ, zero, suc, _+_, _*_, _/_}
+use Prim.Native.Nat.{ℕ, zero, suc, _+_, _/_}
 use lib.Dec.{eqb}
 use lib.ListN.{getD}
 use Rattle.literals.specs.Numbering.{defaultConjugate, judged}

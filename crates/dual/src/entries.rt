@@ -16,7 +16,14 @@ use crate::writing::write_literal;
 use papers::Contents;
 
 // The bytes of an objective literal's entry, by its rules; 0 where it has none, since one of them is a fact.
-fn rules_length(file: &[u8], contents: Contents, places: &[usize; 1280], first: &[usize; 513], next: &[usize; 1280], o: usize) -> usize
+fn rules_length(
+    file: &[u8],
+    contents: Contents,
+    places: &[usize; 1280],
+    first: &[usize; 513],
+    next: &[usize; 1280],
+    o: usize,
+) -> usize
     requires { ⌜ Walked (now file) contents (now places) × (ChainsOf (programIn (now file)) (now first) (now next) × (o < 513)) ⌝ }
     ensures { λ r. ⌜ (r ≡ cond (isFact (allRules (programIn (now (file .entry)))) o) 0 (5 + rulesLength (allRules (programIn (now (file .entry)))) o)) × (r < 65536) ⌝ }
 {
@@ -53,7 +60,13 @@ pub(crate) fn entry_length(
 }
 
 // The length of the dual.
-pub(crate) fn dual_length(file: &[u8], contents: Contents, places: &[usize; 1280], first: &[usize; 513], next: &[usize; 1280]) -> usize
+pub(crate) fn dual_length(
+    file: &[u8],
+    contents: Contents,
+    places: &[usize; 1280],
+    first: &[usize; 513],
+    next: &[usize; 1280],
+) -> usize
     requires { ⌜ Walked (now file) contents (now places) × ChainsOf (programIn (now file)) (now first) (now next) ⌝ }
     ensures { λ r. ⌜ r ≡ dualLength (programIn (now (file .entry))) ⌝ }
 {

@@ -3,11 +3,55 @@ mod chains;
 mod entries;
 mod writing;
 
+ghost use mathlib.Core.Path.{_≡_};
+ghost use Prim.Native.Nat.{_≤_};
+ghost use lib.ListN.{length};
+ghost use Rattle.papers.specs.declared.FileRead.{FileRead};
+ghost use Rattle.papers.specs.Reading.{readFile};
+ghost use Rattle.papers.specs.Answers.{fileAnswer};
+ghost use Rattle.dual.specs.Answers.{dualAnswer, dualAfter};
+use chains::fold_chains;
+use entries::dual_length;
+use entries::write_entries;
+use papers::Contents;
+use papers::FileRead;
 use papers::Refusal;
+use writing::write_end;
 
 // What writing answers: the dual's length, or document 01's refusal 11, or one of the file's.
 pub enum DualWritten {
     Length(usize),
     Short,
     Refused(Refusal),
+}
+
+// The dual of a file that was read already.
+pub fn write_accepted(file: &[u8], contents: Contents, dual: &mut [u8]) -> DualWritten
+    requires { ⌜ fileAnswer (readFile (now file)) ≡ FileRead.Accepted contents ⌝ }
+    ensures { λ r. ⌜ (r ≡ dualAnswer (readFile (now (file .entry))) (length (now (dual .entry)))) × (now (dual .exit) ≡ dualAfter (readFile (now (file .entry))) (now (dual .entry))) ⌝ }
+{
+    let places = papers::folds::fold_places(file, contents);
+    let chains = fold_chains(file, contents, &places);
+    let first = chains.first;
+    let next = chains.next;
+    let size = dual_length(file, contents, &places, &first, &next);
+    if dual.len() < size {
+        return DualWritten::Short;
+    }
+    let end = write_entries(dual, file, contents, &places, &first, &next);
+    write_end(&mut dual[end..]);
+    DualWritten::Length(size)
+}
+
+pub fn write_dual(file: &[u8], dual: &mut [u8]) -> DualWritten
+    ensures { λ r. ⌜ (r ≡ dualAnswer (readFile (now (file .entry))) (length (now (dual .entry)))) × (now (dual .exit) ≡ dualAfter (readFile (now (file .entry))) (now (dual .entry))) ⌝ }
+{
+    let read = papers::read_file(file);
+    let FileRead::Accepted(contents) = read else {
+        let FileRead::Refused(refusal) = read else {
+            return DualWritten::Short;
+        };
+        return DualWritten::Refused(refusal);
+    };
+    write_accepted(file, contents, dual)
 }

@@ -63,7 +63,12 @@ fn fold_count(next: &[usize; 1280], start: usize) -> usize
 }
 
 // 08: the objective literal, and the fold numbers of its rules.
-pub(crate) fn write_literal(buffer: &mut [u8], next: &[usize; 1280], start: usize, o: usize) -> usize
+pub(crate) fn write_literal(
+    buffer: &mut [u8],
+    next: &[usize; 1280],
+    start: usize,
+    o: usize,
+) -> usize
     requires { ⌜ Chain (now next) start (foldsAt (now next) start) × ((5 + 2 * length (foldsAt (now next) start) ≤ length (now buffer)) × (o < 65536)) ⌝ }
     ensures { λ r. ⌜ (r ≡ 5 + 2 * length (foldsAt (now (next .entry)) start)) × (now (buffer .exit) ≡ filled (encodeField 0x08 (encodeNumbers (o ∷ foldsAt (now (next .entry)) start))) (now (buffer .entry))) ⌝ }
 {
@@ -77,4 +82,14 @@ pub(crate) fn write_literal(buffer: &mut [u8], next: &[usize; 1280], start: usiz
         fold = next[fold];
     }
     at
+}
+
+// 7F.
+pub(crate) fn write_end(buffer: &mut [u8])
+    requires { ⌜ 2 < length (now buffer) ⌝ }
+    ensures { λ _. ⌜ now (buffer .exit) ≡ filled (encodeField 0x7F []) (now (buffer .entry)) ⌝ }
+{
+    buffer[0] = 0x7F;
+    buffer[1] = 0;
+    buffer[2] = 0;
 }

@@ -1,7 +1,7 @@
 -- `dual::entries::dual_length` meets its contract. The loop's invariant: what was counted and what is left make the whole.
 -- Assumes nothing.
 use borrow.Author.Needs.{needs}
-use mathlib.Core.Path.{_≡_, refl, sym, ap, subst, _∙_}
+use mathlib.Core.Path.{_≡_, ap, subst, _∙_}
 use Prim.Native.Nat.{ℕ, _+_, _-_, _*_, _≤_}
 use native.Mathlib.Omega.{arith}
 use denote.Ref.{now}
@@ -16,9 +16,6 @@ use Rattle.dual.proofs.FileFacts.{atoms-are, few-atoms, dual-few}
 use Rattle.dual.proofs.EntryLaws.{entries-next, entries-none}
 use Rattle.dual.proofs.entries.dual_length.Statement.{statement}
 use Rattle.dual.proofs.entries.dual_length.Tie as tie
-use Rattle.dual.proofs.entries.dual_length.Reads as reads
-use Rattle.dual.proofs.entries.dual_length.Lts as lts
-use Rattle.dual.proofs.entries.entry_length.Reads as entry-length-reads
 
 abbrev Inv-loop : tie.InvT-loop
 Inv-loop file contents places first next judged total₀ o₀ total o = (o ≤ judged) × (entriesLength (programIn file) judged 0 ≡ total + entriesLength (programIn file) (judged - o) o)
@@ -35,47 +32,36 @@ next : (c : tie.After-entry-length Inv-loop μ-loop) → c .before .before .loop
     ≡ c .before .before .loop .total + c .entry-length .result + entriesLength (programIn (now (c .before .before .before .before .before .args .file))) (2 * c .before .before .before .before .before .args .contents .atoms + 1 - (c .before .before .loop .o + 1)) (c .before .before .loop .o + 1)
 next c = entries-next (programIn (now (c .before .before .before .before .before .args .file))) (2 * c .before .before .before .before .before .args .contents .atoms + 1) (c .before .before .loop .o) (c .before .before .loop .total) (c .before .loop-test .taken) (c .entry-length .ensures .0)
 
--- src/entries.rt:55:23
 cast-judged : tie.Need-cast-judged Inv-loop μ-loop
 cast-judged c = search needs
 
--- src/entries.rt:55:18
 mul-judged : tie.Need-mul-judged Inv-loop μ-loop
 mul-judged c = search needs
 
--- src/entries.rt:55:18
 add-judged : tie.Need-add-judged Inv-loop μ-loop
 add-judged c = search needs
 
--- src/entries.rt:58:5
 loop-holds : tie.Need-loop-holds Inv-loop μ-loop
 loop-holds c = let a = c .before .before .args in let e : 2 * a .contents .atoms + 1 - 0 ≡ 2 * a .contents .atoms + 1 = omega arith in (omega arith, rw e (omega arith))
 
--- src/entries.rt:59:18
 entry-length-requires : tie.Need-entry-length-requires Inv-loop μ-loop
 entry-length-requires c κs = (c .before .before .before .before .pre .0, (c .before .before .before .before .pre .1, omega (arith, few-atoms (now (c .before .before .before .before .args .file)) (c .before .before .before .before .args .contents) (c .before .before .before .before .pre .0 .answer))))
 
--- src/entries.rt:59:9
 add-total : tie.Need-add-total Inv-loop μ-loop
 add-total c = let w = whole (now (c .before .before .before .before .before .args .file)) (c .before .before .before .before .before .args .contents) (c .before .before .before .before .before .pre .0 .answer) in let n = next (c) in omega arith
 
--- src/entries.rt:60:9
 add-o : tie.Need-add-o Inv-loop μ-loop
 add-o c = omega arith
 
--- src/entries.rt:58:5
 loop-less : tie.Need-loop-less Inv-loop μ-loop
 loop-less c = omega arith
 
--- src/entries.rt:58:5
 loop-again : tie.Need-loop-again Inv-loop μ-loop
 loop-again c = (omega arith, c .before .before .loop .inv .1 ∙ next c)
 
--- src/entries.rt:62:5
 add-result : tie.Need-add-result Inv-loop μ-loop
 add-result c = let w = whole (now (c .before .before .before .before .args .file)) (c .before .before .before .before .args .contents) (c .before .before .before .before .pre .0 .answer) in omega arith
 
--- src/entries.rt:51:1
 returns : tie.Need-returns Inv-loop μ-loop
 unfolding dualLength
 returns c =

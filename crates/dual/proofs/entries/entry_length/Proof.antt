@@ -1,12 +1,11 @@
 -- `dual::entries::entry_length` meets its contract.
 -- Assumes nothing.
-use mathlib.Core.Path.{_≡_, refl, sym, ap, subst, _∙_}
-use mathlib.Core.Bool.{Bool}
+use mathlib.Core.Path.{_≡_, sym, ap, _∙_}
 use mathlib.Core.List.{List}
 use Prim.Native.Nat.{ℕ, _+_, _-_, _*_, _/_}
 use native.Mathlib.Omega.{arith}
 use denote.Ref.{now}
-use lib.ListN.{length, take, drop}
+use lib.ListN.{take, drop}
 use Rattle.papers.specs.Field.{numbers}
 use Rattle.papers.specs.Content.{isAmong}
 use Rattle.papers.specs.Reading.{programIn}
@@ -15,10 +14,6 @@ use Rattle.dual.proofs.EntryLaws.{entry-among, entry-rules}
 use borrow.Author.Needs.{needs}
 use Rattle.dual.proofs.entries.entry_length.Statement.{statement}
 use Rattle.dual.proofs.entries.entry_length.Tie as tie
-use Rattle.dual.proofs.entries.entry_length.Reads as reads
-use Rattle.dual.proofs.entries.entry_length.Lts as lts
-use Rattle.dual.proofs.entries.rules_length.Reads as rules-length-reads
-use Rattle.papers.proofs.content.is_among.Reads as is-among-reads
 
 -- The part of the file that is searched holds the abducibles.
 among : (c : tie.After-is-among) → isAmong (numbers (take (12 + 2 * c .before .before .before .before .args .contents .abducibles - 12) (drop 12 (now (c .before .before .before .before .args .file))))) (c .before .before .before .before .args .o / 2) ≡ isAmong ((programIn (now (c .before .before .before .before .args .file))) .abducibles) (c .before .before .before .before .args .o / 2)
@@ -27,39 +22,30 @@ among c =
     let e : 12 + 2 * a .contents .abducibles - 12 ≡ 2 * a .contents .abducibles = omega arith in
     ap (λ (l : List ℕ). isAmong l (a .o / 2)) (ap (λ (k : ℕ). numbers (take k (drop 12 (now (a .file))))) e ∙ abducibles-there (now (c .before .before .before .before .args .file)) (c .before .before .before .before .args .contents) (c .before .before .before .before .pre .0 .answer) (λ i. c .before .before .before .shared-slice-known .given i .fits) .1)
 
--- src/entries.rt:43:20
 mul-end : tie.Need-mul-end
 mul-end c = omega (arith, abducibles-there (now (c .before .before .args .file)) (c .before .before .args .contents) (c .before .before .pre .0 .answer) (λ i. c .before .shared-slice-known .given i .fits) .0)
 
--- src/entries.rt:43:15
 add-end : tie.Need-add-end
 add-end c = omega (arith, abducibles-there (now (c .before .before .args .file)) (c .before .before .args .contents) (c .before .before .pre .0 .answer) (λ i. c .before .shared-slice-known .given i .fits) .0)
 
--- src/entries.rt:44:34
 sub-is-among : tie.Need-sub-is-among
 sub-is-among c = search needs
 
--- src/entries.rt:44:34
 part-is-among-start : tie.Need-part-is-among-start
 part-is-among-start c = search needs
 
--- src/entries.rt:44:34
 part-is-among-end : tie.Need-part-is-among-end
 part-is-among-end c = omega (arith, abducibles-there (now (c .before .before .args .file)) (c .before .before .args .contents) (c .before .before .pre .0 .answer) (λ i. c .before .shared-slice-known .given i .fits) .0)
 
--- src/entries.rt:44:8
 is-among-requires : tie.Need-is-among-requires
 is-among-requires c κs = search needs
 
--- src/entries.rt:45:9
 returns : tie.Need-returns
 returns c = (entry-among (programIn (now (c .before .before .before .before .before .args .file))) (c .before .before .before .before .before .args .o) (sym (among (c .before)) ∙ sym (c .before .is-among .ensures) ∙ c .if1 .taken), omega arith)
 
--- src/entries.rt:47:5
 rules-length-requires : tie.Need-rules-length-requires
 rules-length-requires c κs = search needs
 
--- src/entries.rt:32:1
 returns-2 : tie.Need-returns-2
 returns-2 c = (c .rules-length .ensures .0 ∙ entry-rules (programIn (now (c .before .before .before .before .before .before .args .file))) (c .before .before .before .before .before .before .args .o) (sym (among (c .before .before)) ∙ sym (c .before .before .is-among .ensures) ∙ c .before .if1 .left), c .rules-length .ensures .1)
 

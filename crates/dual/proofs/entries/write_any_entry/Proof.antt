@@ -1,9 +1,8 @@
 -- `dual::entries::write_any_entry` meets its contract.
 -- Assumes nothing.
-use mathlib.Core.Path.{_≡_, refl, sym, ap, subst, _∙_}
-use mathlib.Core.List.{List, []}
+use mathlib.Core.Path.{sym, ap, subst, _∙_}
+use mathlib.Core.List.{List}
 use Prim.Native.Nat.{_≤_}
-use native.Mathlib.Omega.{arith}
 use denote.Ref.{now}
 use lib.ListN.{length}
 use Rattle.papers.specs.Reading.{programIn}
@@ -14,29 +13,20 @@ use Rattle.dual.proofs.TableWriting.{no-entry, some-entry}
 use borrow.Author.Needs.{needs}
 use Rattle.dual.proofs.entries.write_any_entry.Statement.{statement}
 use Rattle.dual.proofs.entries.write_any_entry.Tie as tie
-use Rattle.dual.proofs.entries.write_any_entry.Reads as reads
-use Rattle.dual.proofs.entries.write_any_entry.Lts as lts
-use Rattle.dual.proofs.entries.entry_length.Reads as entry-length-reads
-use Rattle.dual.proofs.entries.write_entry.Reads as write-entry-reads
 
--- src/entries.rt:109:8
 entry-length-requires : tie.Need-entry-length-requires
 entry-length-requires c κs = search needs
 
--- src/entries.rt:110:9
 returns : tie.Need-returns
 unfolding encodeFields
 returns c = let e = no-entry (programIn (now (c .before .before .before .before .args .file))) (c .before .before .before .before .args .o) (c .before .entry-length .ensures .0) (c .if1 .taken) in (ap (λ (l : List Field). length (encodeFields l)) (sym e), ap (λ (l : List Field). filled (encodeFields l) (now (c .before .before .before .before .args .buffer))) (sym e))
 
--- src/entries.rt:112:5
 write-entry-requires : tie.Need-write-entry-requires
 write-entry-requires c κs = let e = some-entry (programIn (now (c .before .before .before .before .before .args .file))) (c .before .before .before .before .before .args .o) (c .before .before .entry-length .ensures .0) (c .before .if1 .left) in (c .before .before .before .before .before .pre .0, (c .before .before .before .before .before .pre .1 .0, (c .before .before .before .before .before .pre .1 .1 .0, subst (λ (l : List Field). length (encodeFields l) ≤ length (now (c .before .before .before .before .before .args .buffer))) e (c .before .before .before .before .before .pre .1 .1 .1))))
 
--- src/entries.rt:97:1
 same-length : tie.Need-same-length
 same-length c = search needs
 
--- src/entries.rt:97:1
 returns-2 : tie.Need-returns-2
 returns-2 c = let e = some-entry (programIn (now (c .before .before .before .before .before .before .before .before .args .file))) (c .before .before .before .before .before .before .before .before .args .o) (c .before .before .before .before .before .entry-length .ensures .0) (c .before .before .before .before .if1 .left) in (c .before .before .write-entry .ensures .0 ∙ ap (λ (l : List Field). length (encodeFields l)) (sym e), c .before .before .write-entry .ensures .1 ∙ ap (λ (l : List Field). filled (encodeFields l) (now (c .before .before .before .before .before .before .before .before .args .buffer))) (sym e))
 

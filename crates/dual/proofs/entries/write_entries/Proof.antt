@@ -2,11 +2,11 @@
 -- Assumes nothing.
 use borrow.Author.Needs.{needs}
 use mathlib.Core.Path.{_≡_, refl, sym, ap, subst, _∙_}
-use mathlib.Core.List.{List, _++_}
-use Prim.Native.Nat.{ℕ, _+_, _-_, _*_, _≤_, _<_}
+use mathlib.Core.List.{List}
+use Prim.Native.Nat.{ℕ, _+_, _-_, _*_, _≤_}
 use native.Mathlib.Omega.{arith}
 use denote.Ref.{now}
-use lib.ListN.{length, take, drop, length-drop}
+use lib.ListN.{length, drop, length-drop}
 use borrow.Rule.Slice.PartMut.{same-len-mid}
 use Rattle.literals.specs.Numbering.{judged}
 use Rattle.papers.specs.Reading.{programIn}
@@ -18,9 +18,6 @@ use Rattle.dual.proofs.FilledLaws.{put-end, part-end}
 use Rattle.dual.proofs.TableWriting.{table-room, Tabled, tabled-none, tabled-more, tabled-done}
 use Rattle.dual.proofs.entries.write_entries.Statement.{statement}
 use Rattle.dual.proofs.entries.write_entries.Tie as tie
-use Rattle.dual.proofs.entries.write_entries.Reads as reads
-use Rattle.dual.proofs.entries.write_entries.Lts as lts
-use Rattle.dual.proofs.entries.write_any_entry.Reads as write-any-entry-reads
 
 abbrev Inv-loop : tie.InvT-loop
 Inv-loop buffer₀ file contents places first next judged end₀ o₀ buffer end o = (o ≤ judged) × (Tabled (programIn file) buffer₀ buffer o end × (length buffer ≡ length buffer₀))
@@ -34,61 +31,48 @@ room c =
     let e = atoms-are (now (c .before .before .before .before .before .args .file)) (c .before .before .before .before .before .args .contents) (c .before .before .before .before .before .pre .0 .answer) in
     omega (arith, c .before .loop .inv .1 .0 .ends, table-room (programIn (now (c .before .before .before .before .before .args .file))) (2 * c .before .before .before .before .before .args .contents .atoms + 1) (c .before .loop .o) (omega arith) (c .loop-test .taken), c .before .before .before .before .before .pre .1 .1)
 
--- src/entries.rt:127:23
 cast-judged : tie.Need-cast-judged Inv-loop μ-loop
 cast-judged c = search needs
 
--- src/entries.rt:127:18
 mul-judged : tie.Need-mul-judged Inv-loop μ-loop
 mul-judged c = search needs
 
--- src/entries.rt:127:18
 add-judged : tie.Need-add-judged Inv-loop μ-loop
 add-judged c = search needs
 
--- src/entries.rt:130:5
 loop-holds : tie.Need-loop-holds Inv-loop μ-loop
 loop-holds c = (omega arith, (tabled-none (programIn (now (c .before .before .before .args .file))) (now (c .before .before .before .args .buffer)), refl))
 
--- src/entries.rt:131:36
 sub-write-any-entry : tie.Need-sub-write-any-entry Inv-loop μ-loop
 sub-write-any-entry c = let r = room (c) in omega (arith, c .before .loop .inv .1 .1)
 
--- src/entries.rt:131:36
 part-write-any-entry-start : tie.Need-part-write-any-entry-start Inv-loop μ-loop
 part-write-any-entry-start c = let r = room (c) in omega (arith, c .before .loop .inv .1 .1)
 
--- src/entries.rt:131:36
 part-write-any-entry-end : tie.Need-part-write-any-entry-end Inv-loop μ-loop
 part-write-any-entry-end c = omega arith
 
--- src/entries.rt:131:13
 write-any-entry-requires : tie.Need-write-any-entry-requires Inv-loop μ-loop
 write-any-entry-requires c κs = let r = room (c .before) in
     let p = ap length (part-end (c .before .before .loop .end) (c .before .before .loop .buffer)) in
     let d = length-drop (c .before .before .loop .end) (c .before .before .loop .buffer) in
     (c .before .before .before .before .before .before .pre .0, (c .before .before .before .before .before .before .pre .1 .0, (omega (arith, few-atoms (now (c .before .before .before .before .before .before .args .file)) (c .before .before .before .before .before .before .args .contents) (c .before .before .before .before .before .before .pre .0 .answer)), omega (arith, c .before .before .loop .inv .1 .1))))
 
--- src/entries.rt:132:9
 add-end : tie.Need-add-end Inv-loop μ-loop
 add-end c = let r = room (c .before .before .before .before) in omega (arith, c .before .before .write-any-entry .ensures .0)
 
--- src/entries.rt:133:9
 add-o : tie.Need-add-o Inv-loop μ-loop
 add-o c = omega arith
 
--- src/entries.rt:130:5
 loop-less : tie.Need-loop-less Inv-loop μ-loop
 loop-less c = omega arith
 
--- src/entries.rt:130:5
 loop-again : tie.Need-loop-again Inv-loop μ-loop
 loop-again c = let end = c .before .before .before .before .before .loop .end in
     let buffer = c .before .before .before .before .before .loop .buffer in
     let part = c .before .before .write-any-entry .last .0 in
     let q : part ≡ filled (encodeFields (entryIfAny (programIn (now (c .before .before .before .before .before .before .before .before .before .args .file))) (c .before .before .before .before .before .loop .o))) (drop end buffer) =
-        c .before .before .write-any-entry .ensures .1 ∙ ap (λ (l : List ℕ). filled (encodeFields (entryIfAny (programIn (now (c .before .before .before .before .before .before .before .before .before .args .file))) (c .before .before .before .before .before .loop .o))) l) (part-end end buffer) in
-    (
+    c .before .before .write-any-entry .ensures .1 ∙ ap (λ (l : List ℕ). filled (encodeFields (entryIfAny (programIn (now (c .before .before .before .before .before .before .before .before .before .args .file))) (c .before .before .before .before .before .loop .o))) l) (part-end end buffer) in (
       omega arith,
       (
         subst (λ (b : List ℕ). Tabled (programIn (now (c .before .before .before .before .before .before .before .before .before .args .file))) (now (c .before .before .before .before .before .before .before .before .before .args .buffer)) b (c .before .before .before .before .before .loop .o + 1) (end + c .before .before .write-any-entry .result)) (sym (put-end end buffer part))
@@ -97,11 +81,9 @@ loop-again c = let end = c .before .before .before .before .before .loop .end in
       ),
     )
 
--- src/entries.rt:116:1
 same-length : tie.Need-same-length Inv-loop μ-loop
 same-length c = c .before .loop .inv .1 .1
 
--- src/entries.rt:116:1
 returns : tie.Need-returns Inv-loop μ-loop
 returns c = tabled-done (programIn (now (c .before .before .before .before .before .args .file))) (now (c .before .before .before .before .before .args .buffer)) (c .before .loop .buffer) (c .before .loop .o) (c .before .loop .end) (c .before .loop .inv .1 .0) (omega (arith, atoms-are (now (c .before .before .before .before .before .args .file)) (c .before .before .before .before .before .args .contents) (c .before .before .before .before .before .pre .0 .answer)))
 

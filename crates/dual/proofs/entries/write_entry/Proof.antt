@@ -2,12 +2,10 @@
 -- Assumes nothing.
 use lib.ListN.{length-drop}
 use borrow.Rule.Slice.PartMut.{same-len-mid}
-use Rattle.papers.specs.Field.{numbers}
 use Rattle.dual.proofs.FilledLaws.{put-end, part-end}
-use borrow.Author.Needs.{needs}
 use mathlib.Core.Path.{_≡_, refl, sym, ap, subst, _∙_}
-use mathlib.Core.List.{List, _∷_, _++_, map}
-use Prim.Native.Nat.{ℕ, _+_, _-_, _*_, _≤_, _<_}
+use mathlib.Core.List.{List, _∷_, map}
+use Prim.Native.Nat.{ℕ, _+_, _-_, _*_, _≤_}
 use native.Mathlib.Omega.{arith}
 use denote.Ref.{now}
 use lib.ListN.{length, getD, take, drop}
@@ -17,16 +15,11 @@ use Rattle.papers.specs.Reading.{programIn}
 use Rattle.papers.specs.Encoding.{encodeNumbers, encodeField}
 use Rattle.papers.proofs.FoldAnswers.{few-body}
 use Rattle.dual.specs.Table.{foldsOf}
-use Rattle.dual.specs.Chains.{Chain, foldsAt}
+use Rattle.dual.specs.Chains.{Chain}
 use Rattle.dual.specs.Answers.{filled}
-use Rattle.dual.proofs.EntryWriting.{foldBytes, oneFold, folds-there, Entered, entered-none, entered-done, entered-fold, entered-rises, entered-room, entered-length, entered-next, one-length, entry-parts, entry-written}
+use Rattle.dual.proofs.EntryWriting.{foldBytes, oneFold, folds-there, Entered, entered-none, entered-done, entered-fold, entered-rises, entered-room, entered-next, one-length, entry-parts, entry-written}
 use Rattle.dual.proofs.entries.write_entry.Statement.{statement}
 use Rattle.dual.proofs.entries.write_entry.Tie as tie
-use Rattle.dual.proofs.entries.write_entry.Reads as reads
-use Rattle.dual.proofs.entries.write_entry.Lts as lts
-use Rattle.dual.proofs.writing.write_fold.Reads as write-fold-reads
-use Rattle.dual.proofs.writing.write_literal.Reads as write-literal-reads
-use Rattle.papers.proofs.folds.body_of.Reads as body-of-reads
 
 abbrev Inv-loop : tie.InvT-loop
 Inv-loop buffer₀ file contents places first next o start end₀ fold₀ buffer end fold = Entered (programIn file) next o end₀ buffer₀ buffer fold end × (length buffer ≡ length buffer₀)
@@ -45,15 +38,12 @@ fits c = let b = base c in let t = entry-parts (programIn (now (c .before .befor
 within : (c : tie.After-body-of Inv-loop μ-loop) → c .before .before .loop .end + length (oneFold (allRules (programIn (now (c .before .before .before .before .before .before .before .before .before .before .args .file)))) (c .before .before .loop .fold)) ≤ length (c .before .before .loop .buffer)
 within c = let r = entered-room (programIn (now (c .before .before .before .before .before .before .before .before .before .before .args .file))) (now (c .before .before .before .before .before .before .before .before .before .before .args .next)) (c .before .before .before .before .before .before .before .before .before .before .args .o) (c .before .before .before .before .before .write-literal .result) (c .before .before .before .before .before .write-literal .last .0) (c .before .before .loop .buffer) (c .before .before .loop .fold) (c .before .before .loop .end) (c .before .before .loop .inv .0) (fits (c .before .before .before .before .before)) (c .before .loop-test .taken) in omega (arith, c .before .before .loop .inv .1)
 
--- src/entries.rt:84:17
 mul-start : tie.Need-mul-start Inv-loop μ-loop
 mul-start c = omega arith
 
--- src/entries.rt:84:17
 element-copy-out-start : tie.Need-element-copy-out-start Inv-loop μ-loop
 element-copy-out-start c = c .before .before .pre .1 .1 .0
 
--- src/entries.rt:85:9
 write-literal-requires : tie.Need-write-literal-requires Inv-loop μ-loop
 write-literal-requires c κs = let a = c .before .before .before .before .args in
     let e = folds-there (programIn (now (c .before .before .before .before .args .file))) (now (a .first)) (now (a .next)) (a .o) (c .before .before .before .before .pre .1 .0) (c .before .before .before .before .pre .1 .1 .0) in
@@ -61,27 +51,21 @@ write-literal-requires c κs = let a = c .before .before .before .before .args i
     let t = entry-parts (programIn (now (c .before .before .before .before .args .file))) (a .o) in
     (subst (Chain (now (a .next)) (getD (now (a .first)) (a .o) 0)) (sym e) (c .before .before .before .before .pre .1 .0 .at (a .o) (c .before .before .before .before .pre .1 .1 .0)), (omega arith, omega arith))
 
--- src/entries.rt:87:5
 loop-holds : tie.Need-loop-holds Inv-loop μ-loop
 loop-holds c = (entered-none (programIn (now (c .before .before .before .before .before .before .before .args .file))) (now (c .before .before .before .before .before .before .before .args .next)) (c .before .before .before .before .before .before .before .args .o) (c .before .before .write-literal .result) (c .before .before .write-literal .last .0) _ (let f = fits (c .before .before) in omega arith) (c .before .before .before .before .before .before .before .pre .1 .0 .at (c .before .before .before .before .before .before .before .args .o) (c .before .before .before .before .before .before .before .pre .1 .1 .0)), refl)
 
--- src/entries.rt:88:13
 body-of-requires : tie.Need-body-of-requires Inv-loop μ-loop
 body-of-requires c κs = (c .before .before .before .before .before .before .before .before .before .pre .0, entered-fold (programIn (now (c .before .before .before .before .before .before .before .before .before .args .file))) (now (c .before .before .before .before .before .before .before .before .before .args .next)) (c .before .before .before .before .before .before .before .before .before .args .o) (c .before .before .before .before .write-literal .result) (c .before .before .before .before .write-literal .last .0) (c .before .loop .buffer) (c .before .loop .fold) (c .before .loop .end) (c .before .loop .inv .0) (fits (c .before .before .before .before)) (c .loop-test .taken) .below)
 
--- src/entries.rt:89:31
 sub-write-fold : tie.Need-sub-write-fold Inv-loop μ-loop
 sub-write-fold c = let w = within (c) in omega arith
 
--- src/entries.rt:89:31
 part-write-fold-start : tie.Need-part-write-fold-start Inv-loop μ-loop
 part-write-fold-start c = let w = within (c) in omega arith
 
--- src/entries.rt:89:31
 part-write-fold-end : tie.Need-part-write-fold-end Inv-loop μ-loop
 part-write-fold-end c = omega arith
 
--- src/entries.rt:89:13
 write-fold-requires : tie.Need-write-fold-requires Inv-loop μ-loop
 write-fold-requires c κs = let w = within (c .before) in
     let b = c .before .body-of .ensures in
@@ -91,52 +75,43 @@ write-fold-requires c κs = let w = within (c .before) in
     let d = length-drop (c .before .before .before .loop .end) (c .before .before .before .loop .buffer) in
     (omega (arith, b .size), (omega arith, (omega (arith, b .size, few-body (now (c .before .before .before .before .before .before .before .before .before .before .before .args .file)) (c .before .before .before .before .before .before .before .before .before .before .before .args .contents) (c .before .before .before .before .before .before .before .before .before .before .before .pre .0 .answer) (c .before .before .before .loop .fold) (entered-fold (programIn (now (c .before .before .before .before .before .before .before .before .before .before .before .args .file))) (now (c .before .before .before .before .before .before .before .before .before .before .before .args .next)) (c .before .before .before .before .before .before .before .before .before .before .before .args .o) (c .before .before .before .before .before .before .write-literal .result) (c .before .before .before .before .before .before .write-literal .last .0) (c .before .before .before .loop .buffer) (c .before .before .before .loop .fold) (c .before .before .before .loop .end) (c .before .before .before .loop .inv .0) (fits (c .before .before .before .before .before .before)) (c .before .before .loop-test .taken) .below)), omega (arith, b .size))))
 
--- src/entries.rt:90:9
 add-end : tie.Need-add-end Inv-loop μ-loop
 add-end c = let w = within (c .before .before .before .before) in let o = one-length (allRules (programIn (now (c .before .before .before .before .before .before .before .before .before .before .before .before .before .before .args .file)))) (c .before .before .before .before .before .before .loop .fold) in omega (arith, c .before .before .write-fold .ensures .0, c .before .before .before .before .body-of .ensures .size, c .before .before .before .before .before .before .loop .inv .1, c .before .before .before .before .before .before .before .before .before .write-literal .kept .0)
 
--- src/entries.rt:91:16
 mul-fold : tie.Need-mul-fold Inv-loop μ-loop
 mul-fold c = omega arith
 
--- src/entries.rt:91:16
 element-copy-out-fold : tie.Need-element-copy-out-fold Inv-loop μ-loop
 element-copy-out-fold c = c .before .before .before .before .before .loop-test .taken
 
--- src/entries.rt:87:5
 loop-less : tie.Need-loop-less Inv-loop μ-loop
 loop-less c = omega (arith, entered-rises (programIn (now (c .before .before .before .before .before .before .before .before .before .before .before .before .before .before .before .args .file))) (now (c .before .before .before .before .before .before .before .before .before .before .before .before .before .before .before .args .next)) (c .before .before .before .before .before .before .before .before .before .before .before .before .before .before .before .args .o) (c .before .before .before .before .before .before .before .before .before .before .write-literal .result) (c .before .before .before .before .before .before .before .before .before .before .write-literal .last .0) (c .before .before .before .before .before .before .before .loop .buffer) (c .before .before .before .before .before .before .before .loop .fold) (c .before .before .before .before .before .before .before .loop .end) (c .before .before .before .before .before .before .before .loop .inv .0) (fits (c .before .before .before .before .before .before .before .before .before .before)) (c .before .before .before .before .before .before .loop-test .taken))
 
--- src/entries.rt:87:5
 loop-again : tie.Need-loop-again Inv-loop μ-loop
 loop-again c = let o = one-length (allRules (programIn (now (c .before .before .before .before .before .before .before .before .before .before .before .before .before .before .before .args .file)))) (c .before .before .before .before .before .before .before .loop .fold) in
     let end = c .before .before .before .before .before .before .before .loop .end in
     let buffer = c .before .before .before .before .before .before .before .loop .buffer in
     let part = c .before .before .before .write-fold .last .0 in
     let q : part ≡ filled (oneFold (allRules (programIn (now (c .before .before .before .before .before .before .before .before .before .before .before .before .before .before .before .args .file)))) (c .before .before .before .before .before .before .before .loop .fold)) (drop end buffer) =
-        c .before .before .before .write-fold .ensures .1
-        ∙ ap (λ (l : List ℕ). filled (encodeField 0x09 (encodeNumbers (c .before .before .before .before .before .before .before .loop .fold ∷ map defaultConjugate l))) (take (length buffer - end) (drop end buffer))) (c .before .before .before .before .before .body-of .ensures .literals)
-        ∙ ap (λ (l : List ℕ). filled (oneFold (allRules (programIn (now (c .before .before .before .before .before .before .before .before .before .before .before .before .before .before .before .args .file)))) (c .before .before .before .before .before .before .before .loop .fold)) l) (part-end end buffer) in
-    let s : c .before .before .before .write-fold .result ≡ length (oneFold (allRules (programIn (now (c .before .before .before .before .before .before .before .before .before .before .before .before .before .before .before .args .file)))) (c .before .before .before .before .before .before .before .loop .fold)) = omega (arith, c .before .before .before .write-fold .ensures .0, c .before .before .before .before .before .body-of .ensures .size) in
-    (
+    c .before .before .before .write-fold .ensures .1
+    ∙ ap (λ (l : List ℕ). filled (encodeField 0x09 (encodeNumbers (c .before .before .before .before .before .before .before .loop .fold ∷ map defaultConjugate l))) (take (length buffer - end) (drop end buffer))) (c .before .before .before .before .before .body-of .ensures .literals)
+    ∙ ap (λ (l : List ℕ). filled (oneFold (allRules (programIn (now (c .before .before .before .before .before .before .before .before .before .before .before .before .before .before .before .args .file)))) (c .before .before .before .before .before .before .before .loop .fold)) l) (part-end end buffer) in
+    let s : c .before .before .before .write-fold .result ≡ length (oneFold (allRules (programIn (now (c .before .before .before .before .before .before .before .before .before .before .before .before .before .before .before .args .file)))) (c .before .before .before .before .before .before .before .loop .fold)) = omega (arith, c .before .before .before .write-fold .ensures .0, c .before .before .before .before .before .body-of .ensures .size) in (
       subst (λ (b : List ℕ). Entered (programIn (now (c .before .before .before .before .before .before .before .before .before .before .before .before .before .before .before .args .file))) (now (c .before .before .before .before .before .before .before .before .before .before .before .before .before .before .before .args .next)) (c .before .before .before .before .before .before .before .before .before .before .before .before .before .before .before .args .o) (c .before .before .before .before .before .before .before .before .before .before .write-literal .result) (c .before .before .before .before .before .before .before .before .before .before .write-literal .last .0) b (getD (now (c .before .before .before .before .before .before .before .before .before .before .before .before .before .before .before .args .next)) (c .before .before .before .before .before .before .before .loop .fold) 0) (end + c .before .before .before .write-fold .result)) (sym (put-end end buffer part))
           (entered-next (programIn (now (c .before .before .before .before .before .before .before .before .before .before .before .before .before .before .before .args .file))) (now (c .before .before .before .before .before .before .before .before .before .before .before .before .before .before .before .args .next)) (c .before .before .before .before .before .before .before .before .before .before .before .before .before .before .before .args .o) (c .before .before .before .before .before .before .before .before .before .before .write-literal .result) (c .before .before .before .before .before .before .before .before .before .before .write-literal .last .0) (c .before .before .before .before .before .before .before .loop .buffer) (c .before .before .before .before .before .before .before .loop .fold) (c .before .before .before .before .before .before .before .loop .end) (c .before .before .before .before .before .before .before .loop .inv .0) (fits (c .before .before .before .before .before .before .before .before .before .before)) (c .before .before .before .before .before .before .loop-test .taken) part (c .before .before .before .write-fold .result) q s),
       same-len-mid end (length buffer - end) buffer part (c .before .before .before .write-fold .kept .0) ∙ c .before .before .before .before .before .before .before .loop .inv .1,
     )
 
--- src/entries.rt:72:1
 same-length : tie.Need-same-length Inv-loop μ-loop
 same-length c = c .before .loop .inv .1 ∙ c .before .before .before .before .write-literal .kept .0
 
--- src/entries.rt:72:1
 returns : tie.Need-returns Inv-loop μ-loop
 returns c = let a = c .before .before .before .before .before .before .before .before .before .args in
     let d = entered-done (programIn (now (c .before .before .before .before .before .before .before .before .before .args .file))) (now (c .before .before .before .before .before .before .before .before .before .args .next)) (c .before .before .before .before .before .before .before .before .before .args .o) (c .before .before .before .before .write-literal .result) (c .before .before .before .before .write-literal .last .0) (c .before .loop .buffer) (c .before .loop .fold) (c .before .loop .end) (c .before .loop .inv .0) (fits (c .before .before .before .before)) (c .loop-test .left) in
     let b = base (c .before .before .before .before) in
     let e = folds-there (programIn (now (c .before .before .before .before .before .before .before .before .before .args .file))) (now (a .first)) (now (a .next)) (a .o) (c .before .before .before .before .before .before .before .before .before .pre .1 .0) (c .before .before .before .before .before .before .before .before .before .pre .1 .1 .0) in
     let s : c .before .before .before .before .write-literal .last .0 ≡ filled (encodeField 0x08 (encodeNumbers (a .o ∷ foldsOf (programIn (now (c .before .before .before .before .before .before .before .before .before .args .file))) (a .o)))) (now (a .buffer)) =
-        c .before .before .before .before .write-literal .ensures .1 ∙ ap (λ (l : List ℕ). filled (encodeField 0x08 (encodeNumbers (a .o ∷ l))) (now (a .buffer))) e in
-    (
+    c .before .before .before .before .write-literal .ensures .1 ∙ ap (λ (l : List ℕ). filled (encodeField 0x08 (encodeNumbers (a .o ∷ l))) (now (a .buffer))) e in (
       omega (arith, d .0, entry-parts (programIn (now (c .before .before .before .before .before .before .before .before .before .args .file))) (a .o)),
       entry-written (programIn (now (c .before .before .before .before .before .before .before .before .before .args .file))) (a .o) (c .before .before .before .before .write-literal .result) (now (a .buffer)) (c .before .before .before .before .write-literal .last .0) (c .before .loop .buffer) b (c .before .before .before .before .before .before .before .before .before .pre .1 .1 .1) s (d .1),
     )

@@ -1,36 +1,28 @@
 -- `dual::writing::put_heading` meets its contract.
 -- Assumes nothing.
-use mathlib.Core.Path.{_≡_, refl, sym, ap, subst, _∙_}
+use mathlib.Core.Path.{ap, _∙_}
 use mathlib.Core.List.{List}
 use Prim.Native.Nat.{ℕ, _/_, _%_}
 use native.Mathlib.Omega.{arith}
 use denote.Ref.{now}
-use lib.ListN.{length, set, length-set}
+use lib.ListN.{set, length-set}
 use Rattle.dual.proofs.FilledLaws.{filled-heading}
 use borrow.Author.Needs.{needs}
 use Rattle.dual.proofs.writing.put_heading.Statement.{statement}
 use Rattle.dual.proofs.writing.put_heading.Tie as tie
-use Rattle.dual.proofs.writing.put_heading.Reads as reads
-use Rattle.dual.proofs.writing.put_heading.Lts as lts
-use Rattle.dual.proofs.writing.put_number.Reads as put-number-reads
 
--- src/writing.rt:28:5
 slice-write-buffer : tie.Need-slice-write-buffer
 slice-write-buffer c = search needs
 
--- src/writing.rt:29:5
 put-number-requires : tie.Need-put-number-requires
 put-number-requires c κs = (simp length-set (omega arith), c .before .before .pre .1 .0)
 
--- src/writing.rt:30:5
 put-number-requires-2 : tie.Need-put-number-requires-2
 put-number-requires-2 c κs = search needs
 
--- src/writing.rt:24:1
 same-length : tie.Need-same-length
 same-length c = c .before .before .put-number2 .kept .0 ∙ c .before .before .before .before .before .before .put-number .kept .0 ∙ simp length-set
 
--- src/writing.rt:24:1
 returns : tie.Need-returns
 returns c = let a = c .before .before .before .before .before .before .before .before .before .args in c .before .before .put-number2 .ensures ∙ ap (λ (l : List ℕ). set (set l 3 (a .number / 256)) 4 (a .number % 256)) (c .before .before .before .before .before .before .put-number .ensures) ∙ filled-heading (now (a .buffer)) (a .tag) _ _ _ _ (c .before .before .before .before .before .before .before .before .before .pre .0)
 
