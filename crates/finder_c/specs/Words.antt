@@ -8,6 +8,8 @@ use Rattle.papers.specs.declared.Paper.the-variants.{File, Sheet}
 use Rattle.papers.specs.declared.Refusal.{Refusal}
 use Rattle.papers.specs.Outcome.{Outcome, accepted, refused}
 use Rattle.papers.specs.Answers.{restFrom}
+use Rattle.dual.specs.declared.DualWritten.{DualWritten}
+use Rattle.dual.specs.declared.DualWritten.the-variants.{Length, Short, Refused}
 
 abbrev pub paperNumber : Paper → ℕ
 paperNumber File = 0
@@ -20,3 +22,9 @@ refusalWords r rest = r .number ∷ paperNumber (r .paper) ∷ r .place ∷ rest
 abbrev pub restWords : {A : Type 0} → Outcome A → List ℕ → List ℕ → List ℕ
 restWords (accepted a) file sheet = 0 ∷ 0 ∷ 0 ∷ 0 ∷ 0 ∷ 0 ∷ 0 ∷ 0 ∷ []
 restWords (refused r) file sheet = refusalWords r (length (restFrom (r .paper) (r .place) file sheet))
+
+-- Writing the dual: word 3 is its length; 11 names no paper and no place.
+abbrev pub dualWords : DualWritten → List ℕ
+dualWords (Length n) = 0 ∷ 0 ∷ 0 ∷ n ∷ 0 ∷ 0 ∷ 0 ∷ 0 ∷ []
+dualWords Short = 11 ∷ 0 ∷ 0 ∷ 0 ∷ 0 ∷ 0 ∷ 0 ∷ 0 ∷ []
+dualWords (Refused r) = refusalWords r 0

@@ -1,8 +1,11 @@
 // The boundary for C and Rust. Each function writes its answer into eight words of the caller's, as
 // include/finder.h says.
 ghost use mathlib.Core.Path.{_≡_};
-ghost use Rattle.papers.specs.Reading.{readPapers};
-ghost use Rattle.finder_c.specs.Words.{paperNumber, refusalWords, restWords};
+ghost use lib.ListN.{length};
+ghost use Rattle.papers.specs.Reading.{readFile, readPapers};
+ghost use Rattle.dual.specs.Answers.{dualAnswer, dualAfter};
+ghost use Rattle.finder_c.specs.Words.{paperNumber, refusalWords, restWords, dualWords};
+use dual::DualWritten;
 use papers::Paper;
 use papers::PapersRead;
 use papers::Refusal;
@@ -36,4 +39,22 @@ pub extern "C" fn finder_rest<'a>(file: &'a [u8], sheet: &'a [u8], out: &mut [u6
     };
     let rest = papers::rest_of_paper(file, sheet).len();
     *out = refusal_words(refusal, rest);
+}
+
+fn dual_words(written: DualWritten) -> [u64; 8]
+    ensures { λ r. ⌜ r ≡ dualWords written ⌝ }
+{
+    match written {
+        DualWritten::Length(n) => [0, 0, 0, n as u64, 0, 0, 0, 0],
+        DualWritten::Short => [11, 0, 0, 0, 0, 0, 0, 0],
+        DualWritten::Refused(refusal) => refusal_words(refusal, 0),
+    }
+}
+
+#[no_mangle]
+pub extern "C" fn finder_write_dual(file: &[u8], dual: &mut [u8], out: &mut [u64; 8])
+    ensures { λ _. ⌜ (now (out .exit) ≡ dualWords (dualAnswer (readFile (now (file .entry))) (length (now (dual .entry))))) × (now (dual .exit) ≡ dualAfter (readFile (now (file .entry))) (now (dual .entry))) ⌝ }
+{
+    let written = dual::write_dual(file, dual);
+    *out = dual_words(written);
 }
