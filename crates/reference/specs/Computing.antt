@@ -7,6 +7,7 @@ use Rattle.papers.specs.Reading.{readEdition, readAtoms, readAbducibles, readRu
 use Rattle.papers.specs.Encoding.{encodeNumbers, encodeField, encodeRun, encodeFile}
 use Rattle.dual.specs.Table.{foldsFrom, foldsOf, isEmpty, isFact, hasEntry, foldField, entry, entriesFrom, dual}
 use Rattle.dual.specs.Encoding.{encodeFields, encodeDual}
+use Rattle.model.specs.Computing.{modelling, falsity}
 
 -- A file and its fields, as they are written,
 unfoldable encoding : Unit {0}
@@ -33,7 +34,7 @@ unfoldable duality : Unit {0}
 unfolding encoding otherOfPair isAmong allRules foldsFrom foldsOf isEmpty isFact hasEntry foldField entry entriesFrom dual encodeFields encodeDual
 duality = tt
 
--- and all of these.
+-- and all of these, with the model and falsity from the dual.
 unfoldable pub computing : Unit {0}
-unfolding reading duality
+unfolding reading duality modelling falsity
 computing = tt

@@ -1,0 +1,98 @@
+-- Laws of tests joined by "and" and "or".
+-- Assumes nothing.
+use mathlib.Core.Path.{_≡_, refl}
+use mathlib.Core.Bool.{Bool, true, false, not}
+use mathlib.Core.Logic.{_⊎_, inl, inr, ⊎-elim}
+use lib.Dec.{T}
+use Rattle.model.specs.Tests.{_and_, _or_}
+
+-- ---- what holds
+
+pub both : (a b : Bool) → T a → T b → T (a and b)
+unfolding _and_
+both true b h k = k
+both false b h k = h
+
+pub left : (a b : Bool) → T (a and b) → T a
+unfolding _and_
+left true b h = tt
+left false b h = h
+
+pub right : (a b : Bool) → T (a and b) → T b
+unfolding _and_
+right true b h = h
+right false b h = absurd h
+
+pub either-left : (a b : Bool) → T a → T (a or b)
+unfolding _or_
+either-left true b h = tt
+either-left false b h = absurd h
+
+pub either-right : (a b : Bool) → T b → T (a or b)
+unfolding _or_
+either-right true b h = tt
+either-right false b h = h
+
+pub either : (a b : Bool) → T (a or b) → T a ⊎ T b
+unfolding _or_
+either true b h = inl tt
+either false b h = inr h
+
+-- A test that holds wherever another does.
+pub or-mono : (a b a′ b′ : Bool) → (T a → T a′) → (T b → T b′) → T (a or b) → T (a′ or b′)
+or-mono a b a′ b′ f g h = ⊎-elim (λ x. either-left _ _ (f x)) (λ y. either-right _ _ (g y)) (either _ _ h)
+
+pub and-mono : (a b a′ b′ : Bool) → (T a → T a′) → (T b → T b′) → T (a and b) → T (a′ and b′)
+and-mono a b a′ b′ f g h = both _ _ (f (left _ _ h)) (g (right _ _ h))
+
+-- A test as an equation.
+pub is-true : (b : Bool) → T b → b ≡ true
+is-true true h = refl
+is-true false h = absurd h
+
+pub is-false : (b : Bool) → (T b → ⊥) → b ≡ false
+is-false true h = absurd (h tt)
+is-false false h = refl
+
+-- ---- equations
+
+pub not-and : (a b : Bool) → not (a and b) ≡ (not a or not b)
+unfolding _and_ _or_
+not-and true b = refl
+not-and false b = refl
+
+pub not-or : (a b : Bool) → not (a or b) ≡ (not a and not b)
+unfolding _and_ _or_
+not-or true b = refl
+not-or false b = refl
+
+pub or-true : (b : Bool) → (b or true) ≡ true
+unfolding _or_
+or-true true = refl
+or-true false = refl
+
+pub or-false : (b : Bool) → (b or false) ≡ b
+unfolding _or_
+or-false true = refl
+or-false false = refl
+
+pub true-or : (b : Bool) → (true or b) ≡ true
+unfolding _or_
+true-or b = refl
+
+pub false-or : (b : Bool) → (false or b) ≡ b
+unfolding _or_
+false-or b = refl
+
+pub false-and : (b : Bool) → (false and b) ≡ false
+unfolding _and_
+false-and b = refl
+
+pub true-and : (b : Bool) → (true and b) ≡ b
+unfolding _and_
+true-and b = refl
+
+pub unless : (a b : Bool) → (a or not b) ≡ not (not a and b)
+unfolding _and_ _or_
+unless true b = refl
+unless false b = refl

@@ -1,0 +1,38 @@
+-- What has to unfold for a model to be computed: a theorem says `unfolding modelling`.
+use Rattle.literals.specs.Numbering.{otherOfPair}
+use Rattle.papers.specs.Program.{allRules}
+use Rattle.papers.specs.Content.{isAmong}
+use Rattle.dual.specs.Table.{foldsFrom, foldsOf, isEmpty, isFact, hasEntry, foldField, entry, entriesFrom, dual}
+use Rattle.model.specs.Tests.{_and_, _or_}
+use Rattle.model.specs.Sets.{flagsFrom, empty, full, complement, sameFlag, sameSet}
+use Rattle.model.specs.Iteration.{iterate, firstStill}
+use Rattle.model.specs.Scenarios.{digitOf, trueAbducible, undefinedAbducible, falseAbducible, trueAbducibles, possibleAbducibles}
+use Rattle.model.specs.LeastSet.{literalHolds, bodyHolds, supported, step, least}
+use Rattle.model.specs.Model.{conjugateIn, sameInterpretation, trueReduct, possibleReduct, trueSet, possibleSet, falseSet, successor, start}
+use Rattle.model.specs.Model.{interpretationAt, rounds, model, valueByte, valueBytes, modelBytes, queryLiteralHolds, queryHolds, explainsBy, explains}
+use Rattle.model.specs.Falsity.{listedBy, someHolds, foldsHold, entryHolds, backed, backedSet, greatest}
+
+-- Sets and least sets,
+unfoldable sets : Unit {0}
+unfolding _and_ _or_ flagsFrom empty full complement sameFlag sameSet iterate firstStill literalHolds bodyHolds supported step least
+sets = tt
+
+-- scenarios,
+unfoldable scenarios : Unit {0}
+unfolding digitOf trueAbducible undefinedAbducible falseAbducible trueAbducibles possibleAbducibles
+scenarios = tt
+
+-- the rounds and the bytes,
+unfoldable pub modelling : Unit {0}
+unfolding sets scenarios otherOfPair allRules conjugateIn sameInterpretation trueReduct possibleReduct trueSet possibleSet falseSet successor start interpretationAt rounds model valueByte valueBytes modelBytes queryLiteralHolds queryHolds explainsBy explains
+modelling = tt
+
+-- the dual's fields,
+unfoldable fields : Unit {0}
+unfolding otherOfPair isAmong allRules foldsFrom foldsOf isEmpty isFact hasEntry foldField entry entriesFrom dual
+fields = tt
+
+-- and falsity from them.
+unfoldable pub falsity : Unit {0}
+unfolding modelling fields listedBy someHolds foldsHold entryHolds backed backedSet greatest
+falsity = tt

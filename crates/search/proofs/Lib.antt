@@ -1,0 +1,19 @@
+-- The laws of the search, and the pause theorem (`Pause`).
+pub mod Tests
+pub mod Parts
+pub mod Minimality
+pub mod Minimals
+pub mod Stopping
+pub mod Sums
+pub mod Steps
+pub mod Runs
+pub mod General
+pub mod Looping
+pub mod Canonical
+pub mod Sound
+pub mod Keeping
+pub mod Calling
+pub mod Pause
+pub mod Reached
+pub mod Walking
+pub mod Examples

@@ -1,0 +1,7 @@
+-- Document 01, "The search": minimal explanations, continuing, test 14, and lists of calls.
+pub mod Scenarios
+pub mod Continuing
+pub mod Spoilt
+pub mod Calls
+pub mod Demand
+pub mod Computing
