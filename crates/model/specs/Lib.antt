@@ -6,4 +6,5 @@ pub mod Scenarios
 pub mod LeastSet
 pub mod Model
 pub mod Falsity
+pub mod Lanes
 pub mod Computing
