@@ -13,7 +13,7 @@ pub const LEAST: u64 = 100;
 
 const PAPERS: [Paper; 2] = [Paper::File, Paper::Sheet];
 
-const NUMBERS: [Number; 10] = [
+pub const NUMBERS: [Number; 10] = [
     Number::Cut,
     Number::StrayField,
     Number::Misfit,

@@ -58,6 +58,11 @@ pub fn damaged(random: &mut Random, paper: &[u8], bounds: &Bounds, times: usize)
     paper
 }
 
+/// How often to damage: with more than once the order of the tests shows.
+pub fn a_few(random: &mut Random) -> usize {
+    random.pick(&[1, 1, 1, 2, 2, 3])
+}
+
 pub fn a_tag(random: &mut Random) -> u8 {
     const KNOWN: [Tag; 7] = [
         Tag::Edition,

@@ -28,6 +28,12 @@ impl Size {
         most_literals: MOST_LITERALS,
     };
 
+    /// That of the programs with the longest dual, whatever is in them.
+    pub const LONGEST_DUAL: Size = Size {
+        abducibles: 0,
+        ..Size::LARGEST
+    };
+
     /// Small as a rule, but now and then at a limit that keeps papers short.
     pub fn small(random: &mut Random) -> Size {
         let mut size = Size {
@@ -83,6 +89,29 @@ impl Size {
         size
     }
 
+    /// Small, but with many rules for each head, none of them empty.
+    pub fn crowded(random: &mut Random) -> Size {
+        let mut size = Size::small(random);
+        size.rules = random.below(40);
+        size.integrity_rules = random.below(10);
+        size.least_literals = 1;
+        size.most_literals = size.most_literals.max(1);
+        size
+    }
+
+    /// One thing less than for the longest dual, all else as much.
+    pub fn long_dual(random: &mut Random) -> Size {
+        let mut size = Size::LONGEST_DUAL;
+        match random.below(5) {
+            0 => size.atoms = random.between(1, MOST_ATOMS.into()) as u16,
+            1 => size.abducibles = random.between(1, MOST_ABDUCIBLES),
+            2 => size.rules = random.below(MOST_RULES),
+            3 => size.integrity_rules = random.below(MOST_INTEGRITY_RULES),
+            _ => size.least_literals = 1,
+        }
+        size
+    }
+
     pub fn is_within_limits(&self) -> bool {
         self.atoms <= MOST_ATOMS
             && self.abducibles <= MOST_ABDUCIBLES
@@ -127,6 +156,16 @@ pub fn query(random: &mut Random, size: &Size) -> Query {
     }
 }
 
+/// Empties some bodies, which makes facts of their heads.
+pub fn add_facts(random: &mut Random, program: &mut Program) {
+    let rule_bodies = program.rules.iter_mut().map(|rule| &mut rule.body);
+    for body in rule_bodies.chain(&mut program.integrity_bodies) {
+        if random.one_in(8) {
+            body.clear();
+        }
+    }
+}
+
 /// Some of the atoms below `count`, at most `most`, strictly rising.
 fn atoms(random: &mut Random, count: u16, most: usize) -> Vec<Atom> {
     let mut left: Vec<Atom> = (0..count).map(Atom).collect();
@@ -162,6 +201,14 @@ mod tests {
         let file = plain::encode_file(&program);
         assert_eq!(file.len(), front + rules + integrity_rules + end);
         assert_eq!(plain::read_file(&file), Ok(program));
+    }
+
+    #[test]
+    fn a_program_has_the_longest_dual() {
+        let mut random = Random::new(5);
+        let program = program(&mut random, &Size::LONGEST_DUAL);
+        let dual = plain::encode_dual(&plain::dual(&program));
+        assert_eq!(dual.len(), 52_488);
     }
 
     #[test]

@@ -2,7 +2,7 @@
 
 use plain::{encode_file, encode_sheet, Program, Query};
 
-use crate::damage::{damaged, Bounds, FIRST_PAST_LIMIT};
+use crate::damage::{a_few, damaged, Bounds, FIRST_PAST_LIMIT};
 use crate::fields::Fields;
 use crate::noise::{noise, noise_after, soup, tag_noise};
 use crate::programs::{program, query, Size};
@@ -124,11 +124,6 @@ fn damaged_sheets(
         let sheet = damaged(random, &papers.sheet, &papers.bounds, times);
         examiner.pair(&papers.file, &sheet);
     }
-}
-
-/// How often to damage: with more than once the order of the tests shows.
-fn a_few(random: &mut Random) -> usize {
-    random.pick(&[1, 1, 1, 2, 2, 3])
 }
 
 /// The papers in each other's place, missing, or one behind the other.

@@ -1,15 +1,9 @@
 //! Compares the two finders on random papers.
-//!
-//! The seed is that of the clock, or FINDER_SEED to repeat a run.
-
-use std::env;
-use std::fmt::Write;
-use std::process::exit;
-use std::time::{Instant, SystemTime, UNIX_EPOCH};
 
 use compare::coverage::Coverage;
 use compare::random::Random;
 use compare::rounds::{mixed_rounds, Examiner};
+use compare::run::{hex, Run};
 use finder::SLOTS;
 use plain::{encode_file, encode_sheet, read_file, read_papers, rest_of_paper};
 use plain::{Paper, Program, Query, Refusal};
@@ -17,15 +11,11 @@ use plain::{Paper, Program, Query, Refusal};
 const LEAST_PAIRS: u64 = 1_000_000;
 
 fn main() {
-    let started = Instant::now();
-    let seed = seed();
-    println!("\nrunning 1 test");
-    // Said first, so that it is known even if the process is stopped.
-    println!("comparing on random papers, FINDER_SEED={seed}");
-
+    let run = Run::start("plain_and_finder_agree", "on random papers");
+    let seed = run.seed;
     let mut random = Random::new(seed);
     let mut comparison = Comparison {
-        seed,
+        run,
         pairs: 0,
         patterns: Random::new(!seed),
         coverage: Coverage::default(),
@@ -36,37 +26,11 @@ fn main() {
 
     println!("{} pairs compared, seed {seed}", comparison.pairs);
     print!("{}", comparison.coverage);
-    let complaints = comparison.coverage.complaints();
-    if !complaints.is_empty() {
-        fail(&format!("seed {seed}\n{}", complaints.join("\n")));
-    }
-    println!("test plain_and_finder_agree ... ok\n");
-    println!(
-        "test result: ok. 1 passed; 0 failed; 0 ignored; 0 measured; 0 filtered out; \
-         finished in {:.2}s\n",
-        started.elapsed().as_secs_f64()
-    );
-}
-
-fn seed() -> u64 {
-    match env::var("FINDER_SEED") {
-        Ok(text) => text.parse().expect("FINDER_SEED is a decimal number"),
-        Err(_) => {
-            let now = SystemTime::now().duration_since(UNIX_EPOCH);
-            now.expect("a clock past 1970").as_nanos() as u64
-        }
-    }
-}
-
-fn fail(report: &str) -> ! {
-    println!("test plain_and_finder_agree ... FAILED\n");
-    println!("{report}\n");
-    println!("test result: FAILED. 0 passed; 1 failed; 0 ignored; 0 measured; 0 filtered out\n");
-    exit(1);
+    comparison.run.end(&comparison.coverage.complaints());
 }
 
 struct Comparison {
-    seed: u64,
+    run: Run,
     pairs: u64,
     /// What the words hold before a call, so that one left unwritten shows.
     patterns: Random,
@@ -123,9 +87,8 @@ impl Comparison {
     }
 
     fn fail(&self, what: &str, file: &[u8], sheet: &[u8]) -> ! {
-        fail(&format!(
-            "{what}\nseed {}, pair {}\nfile  {}\nsheet {}",
-            self.seed,
+        self.run.fail(&format!(
+            "{what}\npair {}\nfile  {}\nsheet {}",
             self.pairs,
             hex(file),
             hex(sheet)
@@ -146,12 +109,4 @@ fn words(reading: &Result<(Program, Query), Refusal>, rest: &[u8]) -> [u64; SLOT
         }
     };
     [number, paper, place, rest.len() as u64, 0, 0, 0, 0]
-}
-
-fn hex(bytes: &[u8]) -> String {
-    let mut text = String::new();
-    for byte in bytes {
-        write!(text, "{byte:02X}").expect("a string takes all");
-    }
-    text
 }

@@ -11,4 +11,12 @@ extern "C" {
         sheet_len: usize,
         out: *mut u64,
     );
+
+    pub fn finder_write_dual(
+        file: *const u8,
+        file_len: usize,
+        dual: *mut u8,
+        dual_len: usize,
+        out: *mut u64,
+    );
 }

@@ -4,7 +4,11 @@
 //! boundary. Each call of the header has its module here.
 
 mod boundary;
+pub mod dual;
+pub mod refusal;
 pub mod rest;
 
 pub use boundary::SLOTS;
-pub use rest::{rest, rest_words, Answer, Paper, Refusal};
+pub use dual::{write_dual, write_dual_words, WriteRefusal};
+pub use refusal::{Paper, Refusal};
+pub use rest::{rest, rest_words, Answer};

@@ -1,20 +1,7 @@
 //! Which paper is refused, why and where, and the rest of it from there.
 
 use crate::boundary::{self, SLOTS};
-
-#[derive(Clone, Copy, Debug, PartialEq, Eq)]
-pub enum Paper {
-    File,
-    Sheet,
-}
-
-#[derive(Clone, Copy, Debug, PartialEq, Eq)]
-pub struct Refusal {
-    /// From 1 to 10, as document 01 numbers them.
-    pub number: u8,
-    pub paper: Paper,
-    pub place: usize,
-}
+use crate::refusal::{Paper, Refusal};
 
 #[derive(Clone, Copy, Debug, PartialEq, Eq)]
 pub struct Answer<'p> {

@@ -1,4 +1,5 @@
-//! The fields of the two papers: their tags, lengths and limits.
+//! The fields of the two papers and of the dual table: their tags, lengths and
+//! limits.
 //!
 //! A field is a one-byte tag, a two-byte length and the content; all two-byte
 //! numbers are unsigned, high byte first.
@@ -16,6 +17,7 @@ pub const MOST_INTEGRITY_RULES: usize = 256;
 /// Of a rule's or an integrity rule's body, and of a query.
 pub const MOST_LITERALS: usize = 16;
 
+/// The tags of the two papers.
 #[derive(Clone, Copy, Debug, PartialEq, Eq)]
 pub enum Tag {
     Edition = 0x01,
@@ -42,6 +44,20 @@ impl Tag {
             Tag::IntegrityRule | Tag::Query => is_numbers(length, 0, MOST_LITERALS),
             Tag::End => length == 0,
         }
+    }
+}
+
+/// The tags of the dual table.
+#[derive(Clone, Copy, Debug, PartialEq, Eq)]
+pub enum DualTag {
+    Entry = 0x08,
+    Folding = 0x09,
+    End = 0x7F,
+}
+
+impl DualTag {
+    pub fn byte(self) -> u8 {
+        self as u8
     }
 }
 

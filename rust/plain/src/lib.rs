@@ -6,10 +6,12 @@
 //!
 //! * "Numberings" is [`numbering`];
 //! * "The file and the sheet" is [`field`], [`program`], [`refusal`],
-//!   [`read`] and [`mod@write`].
+//!   [`read`] and [`mod@write`];
+//! * "The dual table" is [`mod@dual`].
 
 #![forbid(unsafe_code)]
 
+pub mod dual;
 pub mod field;
 pub mod numbering;
 pub mod program;
@@ -17,8 +19,9 @@ pub mod read;
 pub mod refusal;
 pub mod write;
 
-pub use numbering::{Atom, Literal, ObjectiveLiteral};
+pub use dual::{dual, write_dual, Dual, Entry, Folding};
+pub use numbering::{Atom, Fold, Literal, ObjectiveLiteral};
 pub use program::{Program, Query, Rule};
 pub use read::{read_file, read_papers, read_sheet, rest_of_paper};
-pub use refusal::{Number, Paper, Refusal};
-pub use write::{encode_file, encode_sheet};
+pub use refusal::{Number, Paper, Refusal, WriteRefusal};
+pub use write::{encode_dual, encode_file, encode_sheet};

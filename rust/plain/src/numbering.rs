@@ -1,4 +1,4 @@
-//! The numberings of atoms, objective literals and literals.
+//! The numberings of atoms, objective literals, literals and folds.
 //!
 //! They never stand for one another, so each has a type of its own. In all of
 //! them `atoms` is the atom count n.
@@ -15,11 +15,16 @@ impl Atom {
 
 /// Objective literal 2a is atom a, 2a+1 is its explicit negation.
 ///
-/// Falsum, objective literal 2n, stands in no file and is not listed.
+/// Falsum, objective literal 2n, stands in no file and is not listed. It has
+/// no conjugate, no atom and no literal.
 #[derive(Clone, Copy, Debug, PartialEq, Eq, PartialOrd, Ord, Hash)]
 pub struct ObjectiveLiteral(pub u16);
 
 impl ObjectiveLiteral {
+    pub fn falsum(atoms: u16) -> Self {
+        ObjectiveLiteral(2 * atoms)
+    }
+
     pub fn is_listed(self, atoms: u16) -> bool {
         u32::from(self.0) < 2 * u32::from(atoms)
     }
@@ -38,4 +43,18 @@ impl Literal {
     pub fn is_listed(self, atoms: u16) -> bool {
         u32::from(self.0) < 4 * u32::from(atoms)
     }
+
+    /// The literal with not added, or removed where it is there.
+    pub fn default_conjugate(self) -> Literal {
+        if self.0.is_multiple_of(2) {
+            Literal(self.0 + 1)
+        } else {
+            Literal(self.0 - 1)
+        }
+    }
 }
+
+/// Fold k is rule k of the file, from 0 in file order; the integrity rules go
+/// on from there.
+#[derive(Clone, Copy, Debug, PartialEq, Eq, PartialOrd, Ord, Hash)]
+pub struct Fold(pub u16);

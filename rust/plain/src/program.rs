@@ -1,6 +1,6 @@
 //! What the two papers say: a program and a query.
 
-use crate::numbering::{Atom, Literal, ObjectiveLiteral};
+use crate::numbering::{Atom, Fold, Literal, ObjectiveLiteral};
 
 /// The content of a file.
 #[derive(Clone, Debug, PartialEq, Eq)]
@@ -13,6 +13,22 @@ pub struct Program {
     pub rules: Vec<Rule>,
     /// The bodies of the integrity rules in file order; their head is falsum.
     pub integrity_bodies: Vec<Vec<Literal>>,
+}
+
+impl Program {
+    /// The fold number, head and body of each rule and integrity rule, by
+    /// rising fold number.
+    pub fn folds(&self) -> impl Iterator<Item = (Fold, ObjectiveLiteral, &[Literal])> {
+        let falsum = ObjectiveLiteral::falsum(self.atoms);
+        let rules = self.rules.iter().map(|rule| (rule.head, &rule.body[..]));
+        let integrity_rules = self
+            .integrity_bodies
+            .iter()
+            .map(move |body| (falsum, &body[..]));
+        (0..)
+            .zip(rules.chain(integrity_rules))
+            .map(|(fold, (head, body))| (Fold(fold), head, body))
+    }
 }
 
 /// A rule that is not an integrity rule. An empty body is true.

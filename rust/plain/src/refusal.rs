@@ -1,4 +1,5 @@
-//! Refusals 1 to 10: those that name a paper and a place in it.
+//! Refusals 1 to 10, which name a paper and a place in it, and those of
+//! writing the dual, which has 11 too.
 
 use std::fmt;
 
@@ -61,3 +62,21 @@ impl fmt::Display for Refusal {
 }
 
 impl std::error::Error for Refusal {}
+
+/// Why a dual was not written.
+#[derive(Clone, Copy, Debug, PartialEq, Eq)]
+pub enum WriteRefusal {
+    /// 1 to 10: the file is not accepted.
+    File(Refusal),
+    /// 11: the lent dual buffer is shorter than the dual.
+    ShortDual,
+}
+
+impl WriteRefusal {
+    pub fn number(&self) -> u8 {
+        match self {
+            WriteRefusal::File(refusal) => refusal.number as u8,
+            WriteRefusal::ShortDual => 11,
+        }
+    }
+}

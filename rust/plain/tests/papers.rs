@@ -1,9 +1,12 @@
 //! Hand-made papers. They stand in hexadecimal as document 01 writes them;
 //! counts and places are counted by hand, not taken from the crate.
 
+mod hand;
+
+use hand::{bytes, literals};
 use plain::{
-    encode_file, encode_sheet, read_file, read_papers, read_sheet, rest_of_paper, Atom, Literal,
-    Number, ObjectiveLiteral, Paper, Program, Query, Refusal, Rule,
+    encode_file, encode_sheet, read_file, read_papers, read_sheet, rest_of_paper, Atom, Number,
+    ObjectiveLiteral, Paper, Program, Query, Refusal, Rule,
 };
 
 const EXAMPLE_FILE: &str = "01 0001 01 02 0002 0002 03 0002 0001 04 0004 0000 0004 7F 0000";
@@ -14,25 +17,6 @@ const TWO_ATOMS: &str = "01 0001 01 02 0002 0002 03 0000";
 /// The same with atom 1 abducible: 14 bytes.
 const ONE_FIXED: &str = "01 0001 01 02 0002 0002 03 0002 0001";
 const END: &str = "7F 0000";
-
-/// The bytes of the parts, one after the other.
-fn bytes(parts: &[&str]) -> Vec<u8> {
-    let digits: Vec<u32> = parts
-        .iter()
-        .flat_map(|part| part.chars())
-        .filter(|character| !character.is_whitespace())
-        .map(|character| character.to_digit(16).expect("a hexadecimal digit"))
-        .collect();
-    assert_eq!(digits.len() % 2, 0, "half a byte in {parts:?}");
-    digits
-        .chunks(2)
-        .map(|pair| (pair[0] * 16 + pair[1]) as u8)
-        .collect()
-}
-
-fn literals(numbers: &[u16]) -> Vec<Literal> {
-    numbers.iter().map(|&number| Literal(number)).collect()
-}
 
 fn file_accepted(parts: &[&str]) -> Program {
     let file = bytes(parts);

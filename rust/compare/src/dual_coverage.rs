@@ -1,0 +1,322 @@
+//! Which files had a dual and what was in it, which buffers were lent for it,
+//! and which of these must come for a comparison to be worth something.
+
+use std::fmt;
+
+use plain::dual::LONGEST_DUAL;
+use plain::field::{MOST_ABDUCIBLES, MOST_ATOMS, MOST_INTEGRITY_RULES, MOST_LITERALS, MOST_RULES};
+use plain::{dual, encode_dual, Dual, Entry, Literal, ObjectiveLiteral, Program, Refusal};
+
+use crate::coverage::{LEAST, NUMBERS};
+
+/// An accepted file: its program and its dual.
+pub struct Accepted {
+    program: Program,
+    dual: Dual,
+    pub dual_length: usize,
+}
+
+impl Accepted {
+    pub fn new(program: Program) -> Self {
+        let dual = dual(&program);
+        let dual_length = encode_dual(&dual).len();
+        Accepted {
+            program,
+            dual,
+            dual_length,
+        }
+    }
+
+    fn has_rule(&self, holds: impl Fn(ObjectiveLiteral, &[Literal]) -> bool) -> bool {
+        self.program
+            .folds()
+            .any(|(_, head, body)| holds(head, body))
+    }
+
+    fn has_entry(&self, holds: impl Fn(&Entry) -> bool) -> bool {
+        self.dual.entries.iter().any(holds)
+    }
+
+    fn falsum(&self) -> Option<&Entry> {
+        let falsum = ObjectiveLiteral::falsum(self.program.atoms);
+        self.dual
+            .entries
+            .iter()
+            .find(|entry| entry.literal == falsum)
+    }
+}
+
+type Holds = fn(&Accepted) -> bool;
+
+/// What there can be in an accepted file or in its dual.
+const FEATURES: [(&str, Holds); 22] = [
+    ("an abducible", |file| !file.program.abducibles.is_empty()),
+    ("a fact", |file| {
+        file.program.rules.iter().any(|rule| rule.body.is_empty())
+    }),
+    ("a fact that has other rules", |file| {
+        let rules = &file.program.rules;
+        let facts = rules.iter().filter(|rule| rule.body.is_empty());
+        let mut heads = facts.map(|fact| fact.head);
+        let has_others = |head| {
+            let mut bodies = rules.iter().filter(|rule| rule.head == head);
+            bodies.any(|rule| !rule.body.is_empty())
+        };
+        heads.any(has_others)
+    }),
+    ("no fact", |file| !file.has_rule(|_, body| body.is_empty())),
+    ("a rule for an explicit negation", |file| {
+        file.program.rules.iter().any(|rule| is_negation(rule.head))
+    }),
+    ("an explicit negation in a body", |file| {
+        file.has_rule(|_, body| {
+            let objective = |literal: &Literal| ObjectiveLiteral(literal.0 / 2);
+            body.iter().any(|literal| is_negation(objective(literal)))
+        })
+    }),
+    ("an entry without folds", |file| {
+        file.has_entry(|entry| entry.foldings.is_empty())
+    }),
+    ("an entry with several folds", |file| {
+        file.has_entry(|entry| entry.foldings.len() > 1)
+    }),
+    ("an entry with folds that are no neighbours", |file| {
+        file.has_entry(|entry| {
+            let mut pairs = entry.foldings.windows(2);
+            pairs.any(|pair| pair[0].fold.0 + 1 < pair[1].fold.0)
+        })
+    }),
+    ("a later fold before an earlier one", |file| {
+        let foldings = file.dual.entries.iter().flat_map(|entry| &entry.foldings);
+        !foldings.is_sorted_by_key(|folding| folding.fold)
+    }),
+    ("a fold past 255", |file| {
+        file.has_entry(|entry| entry.foldings.iter().any(|folding| folding.fold.0 > 255))
+    }),
+    ("falsum as a fact", |file| file.falsum().is_none()),
+    ("falsum without folds", |file| {
+        file.falsum().is_some_and(|entry| entry.foldings.is_empty())
+    }),
+    ("falsum with folds", |file| {
+        file.falsum()
+            .is_some_and(|entry| !entry.foldings.is_empty())
+    }),
+    ("no entry at all", |file| file.dual.entries.is_empty()),
+    ("256 atoms", |file| file.program.atoms == MOST_ATOMS),
+    ("16 abducibles", |file| {
+        file.program.abducibles.len() == MOST_ABDUCIBLES
+    }),
+    ("1,024 rules", |file| file.program.rules.len() == MOST_RULES),
+    ("256 integrity rules", |file| {
+        file.program.integrity_bodies.len() == MOST_INTEGRITY_RULES
+    }),
+    ("a body of 16 literals", |file| {
+        file.has_rule(|_, body| body.len() == MOST_LITERALS)
+    }),
+    ("a dual of more than 32,768 bytes", |file| {
+        file.dual_length > 32_768
+    }),
+    ("the longest dual", |file| file.dual_length == LONGEST_DUAL),
+];
+
+fn is_negation(literal: ObjectiveLiteral) -> bool {
+    literal.0 % 2 == 1
+}
+
+/// How many bytes a lent buffer has, beside how many the dual has.
+type Lent = fn(usize, usize) -> bool;
+
+/// Those that are too short.
+const SHORT: [(&str, Lent); 3] = [
+    ("an empty buffer", |lent, _| lent == 0),
+    ("one byte too few", |lent, dual| lent + 1 == dual),
+    ("any other", |lent, dual| 0 < lent && lent + 1 < dual),
+];
+
+/// Those that are long enough.
+const LONG_ENOUGH: [(&str, Lent); 2] = [
+    ("no byte to spare", |lent, dual| lent == dual),
+    ("bytes to spare", |lent, dual| lent > dual),
+];
+
+/// How often each answer came.
+#[derive(Default)]
+pub struct DualCoverage {
+    /// Files, by number.
+    refused: [u64; NUMBERS.len()],
+    accepted: u64,
+    with: [u64; FEATURES.len()],
+    /// Buffers lent with an accepted file.
+    short: [u64; SHORT.len()],
+    long_enough: [u64; LONG_ENOUGH.len()],
+}
+
+impl DualCoverage {
+    pub fn count_refused(&mut self, refusal: &Refusal) {
+        let number = NUMBERS.iter().position(|&other| other == refusal.number);
+        self.refused[number.expect("all there are of them")] += 1;
+    }
+
+    pub fn count_accepted(&mut self, file: &Accepted) {
+        self.accepted += 1;
+        for (count, (_, holds)) in self.with.iter_mut().zip(FEATURES) {
+            *count += u64::from(holds(file));
+        }
+    }
+
+    /// Counts a buffer of so many bytes lent for an accepted file.
+    pub fn count_lent(&mut self, lent: usize, dual_length: usize) {
+        let short = self.short.iter_mut().zip(SHORT);
+        let long_enough = self.long_enough.iter_mut().zip(LONG_ENOUGH);
+        for (count, (_, is_it)) in short.chain(long_enough) {
+            *count += u64::from(is_it(lent, dual_length));
+        }
+    }
+
+    /// What came too rarely.
+    pub fn complaints(&self) -> Vec<String> {
+        let mut complaints = Vec::new();
+        let mut expect = |what: String, count: u64| {
+            if count < LEAST {
+                complaints.push(format!("only {count} times: {what}"));
+            }
+        };
+        for (number, &count) in NUMBERS.into_iter().zip(&self.refused) {
+            expect(format!("file refused {number:?}"), count);
+        }
+        expect("file accepted".to_string(), self.accepted);
+        for (&count, (name, _)) in self.with.iter().zip(FEATURES) {
+            expect(format!("accepted with {name}"), count);
+        }
+        for (&count, (name, _)) in self.short.iter().zip(SHORT) {
+            expect(format!("refused 11 with {name}"), count);
+        }
+        for (&count, (name, _)) in self.long_enough.iter().zip(LONG_ENOUGH) {
+            expect(format!("written with {name}"), count);
+        }
+        complaints
+    }
+}
+
+impl fmt::Display for DualCoverage {
+    fn fmt(&self, f: &mut fmt::Formatter) -> fmt::Result {
+        writeln!(f, "files refused, by number")?;
+        for (number, count) in NUMBERS.into_iter().zip(&self.refused) {
+            writeln!(f, "    {:2}: {count}", number as u8)?;
+        }
+        writeln!(f, "files accepted {}", self.accepted)?;
+        for (count, (name, _)) in self.with.iter().zip(FEATURES) {
+            writeln!(f, "    with {name}: {count}")?;
+        }
+        writeln!(f, "refused 11 {}", self.short.iter().sum::<u64>())?;
+        for (count, (name, _)) in self.short.iter().zip(SHORT) {
+            writeln!(f, "    with {name}: {count}")?;
+        }
+        writeln!(f, "written {}", self.long_enough.iter().sum::<u64>())?;
+        for (count, (name, _)) in self.long_enough.iter().zip(LONG_ENOUGH) {
+            writeln!(f, "    with {name}: {count}")?;
+        }
+        Ok(())
+    }
+}
+
+#[cfg(test)]
+mod tests {
+    use super::*;
+    use plain::{Atom, Number, Paper, Rule};
+
+    fn rule(head: u16, body: &[u16]) -> Rule {
+        Rule {
+            head: ObjectiveLiteral(head),
+            body: literals(body),
+        }
+    }
+
+    fn literals(numbers: &[u16]) -> Vec<Literal> {
+        numbers.iter().map(|&number| Literal(number)).collect()
+    }
+
+    fn features(program: Program) -> Vec<&'static str> {
+        let file = Accepted::new(program);
+        let held = FEATURES.iter().filter(|(_, holds)| holds(&file));
+        held.map(|&(name, _)| name).collect()
+    }
+
+    #[test]
+    fn the_features_of_example_2_1() {
+        let program = Program {
+            atoms: 3,
+            abducibles: vec![],
+            rules: vec![rule(4, &[5]), rule(2, &[0]), rule(3, &[]), rule(0, &[1])],
+            integrity_bodies: vec![],
+        };
+        let expected = [
+            "a fact",
+            "a rule for an explicit negation",
+            "an entry without folds",
+            "a later fold before an earlier one",
+            "falsum without folds",
+        ];
+        assert_eq!(features(program), expected);
+    }
+
+    #[test]
+    fn the_features_of_other_programs() {
+        let program = Program {
+            atoms: 2,
+            abducibles: vec![Atom(1)],
+            rules: vec![rule(0, &[3]), rule(1, &[]), rule(0, &[6]), rule(1, &[0])],
+            integrity_bodies: vec![literals(&[0])],
+        };
+        let expected = [
+            "an abducible",
+            "a fact",
+            "a fact that has other rules",
+            "a rule for an explicit negation",
+            "an explicit negation in a body",
+            "an entry with several folds",
+            "an entry with folds that are no neighbours",
+            "falsum with folds",
+        ];
+        assert_eq!(features(program), expected);
+
+        let program = Program {
+            atoms: 1,
+            abducibles: vec![Atom(0)],
+            rules: vec![],
+            integrity_bodies: vec![vec![]],
+        };
+        let expected = ["an abducible", "falsum as a fact", "no entry at all"];
+        assert_eq!(features(program), expected);
+    }
+
+    #[test]
+    fn every_buffer_is_counted_once() {
+        for lent in 0..8 {
+            let mut coverage = DualCoverage::default();
+            coverage.count_lent(lent, 5);
+            let short: u64 = coverage.short.iter().sum();
+            let long_enough: u64 = coverage.long_enough.iter().sum();
+            assert_eq!((short, long_enough), if lent < 5 { (1, 0) } else { (0, 1) });
+        }
+    }
+
+    #[test]
+    fn what_never_came_is_complained_of() {
+        let mut coverage = DualCoverage::default();
+        let numbers_up_to_10 = 10;
+        let accepted = 1 + 22;
+        let buffers = 3 + 2;
+        let all = numbers_up_to_10 + accepted + buffers;
+        assert_eq!(coverage.complaints().len(), all);
+        let refusal = Refusal {
+            number: Number::Tail,
+            paper: Paper::File,
+            place: 15,
+        };
+        for _ in 0..LEAST {
+            coverage.count_refused(&refusal);
+        }
+        assert_eq!(coverage.complaints().len(), all - 1);
+    }
+}

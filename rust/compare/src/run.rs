@@ -1,0 +1,70 @@
+//! What a comparison prints: the lines of a test harness with one test, and
+//! what it was run on.
+
+use std::env;
+use std::fmt::Write;
+use std::process::exit;
+use std::time::{Instant, SystemTime, UNIX_EPOCH};
+
+/// A comparison that runs as a test of its own.
+pub struct Run {
+    test: &'static str,
+    started: Instant,
+    pub seed: u64,
+}
+
+impl Run {
+    /// The seed is that of the clock, or FINDER_SEED to repeat a run. It is
+    /// said first, so that it is known even if the process is stopped.
+    pub fn start(test: &'static str, subject: &str) -> Run {
+        let started = Instant::now();
+        let seed = seed();
+        println!("\nrunning 1 test");
+        println!("comparing {subject}, FINDER_SEED={seed}");
+        Run {
+            test,
+            started,
+            seed,
+        }
+    }
+
+    /// Passes where the coverage has no complaints.
+    pub fn end(&self, complaints: &[String]) {
+        if !complaints.is_empty() {
+            self.fail(&complaints.join("\n"));
+        }
+        println!("test {} ... ok\n", self.test);
+        println!(
+            "test result: ok. 1 passed; 0 failed; 0 ignored; 0 measured; 0 filtered out; \
+             finished in {:.2}s\n",
+            self.started.elapsed().as_secs_f64()
+        );
+    }
+
+    pub fn fail(&self, report: &str) -> ! {
+        println!("test {} ... FAILED\n", self.test);
+        println!("seed {}\n{report}\n", self.seed);
+        println!(
+            "test result: FAILED. 0 passed; 1 failed; 0 ignored; 0 measured; 0 filtered out\n"
+        );
+        exit(1);
+    }
+}
+
+fn seed() -> u64 {
+    match env::var("FINDER_SEED") {
+        Ok(text) => text.parse().expect("FINDER_SEED is a decimal number"),
+        Err(_) => {
+            let now = SystemTime::now().duration_since(UNIX_EPOCH);
+            now.expect("a clock past 1970").as_nanos() as u64
+        }
+    }
+}
+
+pub fn hex(bytes: &[u8]) -> String {
+    let mut text = String::new();
+    for byte in bytes {
+        write!(text, "{byte:02X}").expect("a string takes all");
+    }
+    text
+}
