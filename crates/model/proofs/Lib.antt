@@ -14,3 +14,5 @@ pub mod ByteLaws
 pub mod Support
 pub mod Orders
 pub mod Coherence
+pub mod BitLaws
+pub mod DigitLaws

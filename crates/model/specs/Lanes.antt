@@ -1,7 +1,8 @@
 -- Sixty-four scenarios at once: bit l of word o says whether o is in the set of lane l.
-use mathlib.Core.Bool.{Bool}
+use mathlib.Core.Path.{_≡_}
+use mathlib.Core.Bool.{Bool, true, cond}
 use mathlib.Core.List.{List}
-use Prim.Native.Nat.{ℕ, _/_, _%_, _^_}
+use Prim.Native.Nat.{ℕ, _+_, _/_, _%_, _^_, _<_}
 use lib.Dec.{eqb}
 use lib.ListN.{getD}
 use Rattle.model.specs.Sets.{Set, setOf}
@@ -13,3 +14,12 @@ inLane l w = eqb (w / 2 ^ l % 2) 1
 -- The set of lane l, of n flags.
 unfoldable pub lane : ℕ → ℕ → List ℕ → Set
 lane n l words = setOf n (λ o. inLane l (getD words o 0))
+
+-- A word with lane j by a test and the others as they were.
+pub record LaneSet (word j : ℕ) (test : Bool) (after : ℕ) : Type 0 where
+  pub there : inLane j after ≡ cond test true (inLane j word)
+  pub others : (k : ℕ) → (k ≡ j → ⊥) → inLane k after ≡ inLane k word
+
+-- The lanes whose scenario, base + l, has this digit at a power of 3.
+pub record DigitLanes (base power digit word : ℕ) : Type 0 where
+  pub at : (l : ℕ) → l < 64 → inLane l word ≡ eqb ((base + l) / power % 3) digit

@@ -1,1 +1,2 @@
-// Document 01, "Scenarios and the model": the definitions stand in specs/, the theory of least and greatest sets in proofs/. No function is here yet.
+// The well-founded model of a scenario, sixty-four scenarios at a time.
+mod digits;
