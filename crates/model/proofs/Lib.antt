@@ -16,3 +16,4 @@ pub mod Orders
 pub mod Coherence
 pub mod BitLaws
 pub mod DigitLaws
+pub mod SeedLaws

@@ -1,18 +1,19 @@
 // The digits of 64 scenarios that follow one another, as words: a lane for each scenario.
 ghost use mathlib.Core.Path.{_≡_};
 ghost use Prim.Native.Nat.{_<_};
-ghost use Rattle.model.specs.Lanes.{LaneSet, DigitLanes};
+ghost use Rattle.papers.specs.declared.FileRead.{FileRead};
+ghost use Rattle.papers.specs.Reading.{readFile, programIn};
+ghost use Rattle.papers.specs.Answers.{fileAnswer};
+ghost use Rattle.model.specs.Lanes.{LaneSet, DigitLanes, AbducibleLanes};
+use papers::Contents;
+use papers::field::number_at;
 
 // A word with one lane set where a test holds.
 fn lane_if(word: u64, lane: u64, test: bool) -> u64
     requires { ⌜ lane < 64 ⌝ }
     ensures { λ r. ⌜ LaneSet word lane test r ⌝ }
 {
-    if test {
-        word | (1 << lane)
-    } else {
-        word
-    }
+    if test { word | (1 << lane) } else { word }
 }
 
 // The lanes of the scenarios from `base` on that have this digit at a power of 3.
@@ -28,4 +29,35 @@ pub(crate) fn digit_lanes(base: u64, power: u64, digit: u64) -> u64
         lane += 1;
     }
     word
+}
+
+// The true and the false abducible literals of 64 scenarios.
+pub struct Abducibles {
+    pub trues: [u64; 513],
+    pub falses: [u64; 513],
+}
+
+pub(crate) fn abducible_lanes(file: &[u8], contents: Contents, base: u64) -> Abducibles
+    requires { ⌜ (fileAnswer (readFile (now file)) ≡ FileRead.Accepted contents) × (base < 4294967296) ⌝ }
+    ensures { λ r. ⌜ AbducibleLanes (programIn (now (file .entry))) base (r .trues) (r .falses) ⌝ }
+{
+    let count = contents.abducibles;
+    let end = 12 + 2 * count;
+    let listed = &file[12..end];
+    let mut trues = [0u64; 513];
+    let mut falses = [0u64; 513];
+    let mut power: u64 = 1;
+    let mut i: usize = 0;
+    while i < count {
+        let o = 2 * number_at(listed, 2 * i);
+        let assumed = digit_lanes(base, power, 1);
+        let ruled = digit_lanes(base, power, 2);
+        trues[o] = assumed;
+        trues[o + 1] = ruled;
+        falses[o] = ruled;
+        falses[o + 1] = assumed;
+        power = power * 3;
+        i += 1;
+    }
+    Abducibles { trues, falses }
 }
