@@ -4,7 +4,9 @@ use mathlib.Core.Bool.{Bool, true, cond}
 use mathlib.Core.List.{List}
 use Prim.Native.Nat.{ℕ, _+_, _/_, _%_, _^_, _<_}
 use lib.Dec.{eqb}
+use lib.Bits.{bitOr}
 use lib.ListN.{getD}
+use Rattle.literals.specs.Numbering.{explicitConjugate, judged, listed}
 use Rattle.papers.specs.Program.{Program}
 use Rattle.model.specs.Sets.{Set, setOf}
 use Rattle.model.specs.Scenarios.{trueAbducible, falseAbducible}
@@ -30,3 +32,10 @@ pub record DigitLanes (base power digit word : ℕ) : Type 0 where
 pub record AbducibleLanes (p : Program) (base : ℕ) (trues falses : List ℕ) : Type 0 where
   pub true-at : (l o : ℕ) → l < 64 → inLane l (getD trues o 0) ≡ trueAbducible p (base + l) o
   pub false-at : (l o : ℕ) → l < 64 → inLane l (getD falses o 0) ≡ falseAbducible p (base + l) o
+
+-- What backs o besides its 08 field, in each lane: its conjugate in T(j), or a false abducible literal.
+unfoldable pub backingWord : ℕ → List ℕ → List ℕ → ℕ → ℕ
+backingWord n trues falses o = bitOr (cond (listed n o) (getD trues (explicitConjugate o) 0) 0) (getD falses o 0)
+
+pub record BackingWords (n : ℕ) (trues falses words : List ℕ) : Type 0 where
+  pub at : (o : ℕ) → o < judged n → getD words o 0 ≡ backingWord n trues falses o

@@ -1,2 +1,3 @@
 // The well-founded model of a scenario, sixty-four scenarios at a time.
+mod backing;
 mod digits;
