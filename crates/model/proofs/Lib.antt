@@ -17,3 +17,4 @@ pub mod Coherence
 pub mod BitLaws
 pub mod DigitLaws
 pub mod SeedLaws
+pub mod ChangeLaws

@@ -1,6 +1,6 @@
 -- Sixty-four scenarios at once: bit l of word o says whether o is in the set of lane l.
 use mathlib.Core.Path.{_≡_}
-use mathlib.Core.Bool.{Bool, true, cond}
+use mathlib.Core.Bool.{Bool, true, false, cond}
 use mathlib.Core.List.{List}
 use Prim.Native.Nat.{ℕ, _+_, _/_, _%_, _^_, _<_}
 use lib.Dec.{eqb}
@@ -39,3 +39,8 @@ backingWord n trues falses o = bitOr (cond (listed n o) (getD trues (explicitCon
 
 pub record BackingWords (n : ℕ) (trues falses words : List ℕ) : Type 0 where
   pub at : (o : ℕ) → o < judged n → getD words o 0 ≡ backingWord n trues falses o
+
+-- The lanes in which two rows of words are different sets of n flags.
+pub record Changed (n : ℕ) (before after : List ℕ) (word : ℕ) : Type 0 where
+  pub same : (l : ℕ) → inLane l word ≡ false → lane n l before ≡ lane n l after
+  pub other : (l : ℕ) → inLane l word ≡ true → lane n l before ≡ lane n l after → ⊥
