@@ -1,24 +1,18 @@
--- Single bits of a word, as tests: of a sum of powers by `or`, and of no bits at all.
+-- One lane of a word set, and the lanes in which two words differ.
 -- Assumes nothing.
 use mathlib.Core.Path.{_≡_, refl, sym, ap, _∙_}
-use mathlib.Core.Bool.{true, false, true≢false, false≢true}
-use Prim.Native.Nat.{ℕ, zero, suc, _+_, _-_, _*_, _/_, _%_, _^_, _<_, max}
-use native.Mathlib.Decide.{ℕ-discrete}
+use mathlib.Core.Bool.{Bool, true, false, not, true≢false, false≢true}
+use Prim.Native.Nat.{ℕ, suc, _+_, _-_, _*_, _/_, _%_, _^_, _<_}
 use native.Mathlib.Omega.{arith, ne-cases}
-use native.Mathlib.Nat.{mod-eq-of-lt, one-mul, zero-div}
-use borrow.Author.Tests.{eq-eqb, ne-eqb, eqb-true, eqb-false}
-use lib.Arith.{digits-mod}
-use lib.Dec.{eqb}
+use native.Mathlib.Nat.{mod-eq-of-lt, one-mul}
+use lib.Bits.{bitOr, bitXor, shifted-even}
 use lib.Pow.{high, pow-add, pow-lt, shl-shr}
-use lib.Bits.{bitOr, or-shr, or-step, shifted-even, bitXor, differ, xor-shr, xor-step}
+use Rattle.model.specs.Tests.{_or_}
+use Rattle.model.specs.Sets.{sameFlag}
 use Rattle.model.specs.Lanes.{inLane, LaneSet}
+use Rattle.model.proofs.LaneLaws.{lane-or, lane-xor}
 
-bit-or : (j a b : ℕ) → bitOr a b / 2 ^ j % 2 ≡ max (a / 2 ^ j % 2) (b / 2 ^ j % 2)
-bit-or j a b =
-    ap (λ (x : ℕ). x % 2) (or-shr a b j ∙ or-step (a / 2 ^ j) (b / 2 ^ j))
-    ∙ digits-mod (bitOr (a / 2 ^ j / 2) (b / 2 ^ j / 2)) {m = 2} {r = max (a / 2 ^ j % 2) (b / 2 ^ j % 2)} (omega arith)
-
--- ---- a power of two
+-- ---- a power of two has one lane
 
 bit-same : (j : ℕ) → 2 ^ j / 2 ^ j % 2 ≡ 1
 bit-same j = ap (λ (x : ℕ). x / 2 ^ j % 2) (sym (one-mul (2 ^ j))) ∙ ap (λ (x : ℕ). x % 2) (shl-shr 1 j)
@@ -41,82 +35,64 @@ bit-other k j n =
     (λ h. let e : j ≡ suc (j - suc k) + k = omega arith in ap (λ (x : ℕ). 2 ^ x / 2 ^ k % 2) e ∙ bit-below k (j - suc k))
     (λ h. bit-above k j h)
 
+power-there : (j : ℕ) → inLane j (2 ^ j) ≡ true
+unfolding inLane
+power-there j = rw (bit-same j)
+
+power-elsewhere : (k j : ℕ) → (k ≡ j → ⊥) → inLane k (2 ^ j) ≡ false
+unfolding inLane
+power-elsewhere k j n = rw (bit-other k j n)
+
 -- ---- one lane more
+
+or-true : (b : Bool) → (b or true) ≡ true
+unfolding _or_
+or-true true = refl
+or-true false = refl
+
+or-false : (b : Bool) → (b or false) ≡ b
+unfolding _or_
+or-false true = refl
+or-false false = refl
 
 module _ (x j : ℕ) (h : j < 64) where
   shifted : 1 * 2 ^ j % 18446744073709551616 ≡ 2 ^ j
   shifted = ap (λ (y : ℕ). y % 18446744073709551616) (one-mul (2 ^ j)) ∙ mod-eq-of-lt (pow-lt h)
 
   pub lane-set : LaneSet x j true (bitOr x (1 * 2 ^ j % 18446744073709551616))
-  unfolding inLane
   lane-set = record {
-    there = rw shifted (eq-eqb (bitOr x (2 ^ j) / 2 ^ j % 2) 1 (let o = bit-or j x (2 ^ j) in let s = bit-same j in omega arith));
-    others = λ k n. rw shifted (ap (λ (b : ℕ). eqb b 1) (let o = bit-or k x (2 ^ j) in let z = bit-other k j n in let e : bitOr x (2 ^ j) / 2 ^ k % 2 ≡ x / 2 ^ k % 2 = omega arith in e));
+    there = rw (shifted, lane-or j x (2 ^ j), power-there j) (or-true (inLane j x));
+    others = λ k n. rw (shifted, lane-or k x (2 ^ j), power-elsewhere k j n) (or-false (inLane k x));
   }
 
 pub lane-kept : (x j : ℕ) → LaneSet x j false x
 lane-kept x j = record { there = refl; others = λ k n. refl }
 
-pub none-set : (l : ℕ) → inLane l 0 ≡ false
-unfolding inLane
-none-set l = let z = zero-div (2 ^ l) in ne-eqb (0 / 2 ^ l % 2) 1 (λ e. omega arith)
+-- ---- differences that are gathered in a word
 
--- ---- differences
+gathered : (w a b : Bool) → (w or not (sameFlag a b)) ≡ false → (w ≡ false) × (a ≡ b)
+unfolding _or_ sameFlag
+gathered true a b e = absurd (true≢false e)
+gathered false true true e = (refl, refl)
+gathered false true false e = absurd (true≢false e)
+gathered false false true e = absurd (true≢false e)
+gathered false false false e = (refl, refl)
 
-differ-lt : (a b : ℕ) → a < 2 → b < 2 → differ a b < 2
-differ-lt zero b h k = k
-differ-lt (suc zero) zero h k = h
-differ-lt (suc zero) (suc b) h k = omega arith
-differ-lt (suc (suc a)) b h k = absurd (omega arith)
-
-bit-xor : (j a b : ℕ) → bitXor a b / 2 ^ j % 2 ≡ differ (a / 2 ^ j % 2) (b / 2 ^ j % 2)
-bit-xor j a b =
-    ap (λ (x : ℕ). x % 2) (xor-shr a b j ∙ xor-step (a / 2 ^ j) (b / 2 ^ j))
-    ∙ digits-mod (bitXor (a / 2 ^ j / 2) (b / 2 ^ j / 2)) {m = 2} {r = differ (a / 2 ^ j % 2) (b / 2 ^ j % 2)} (differ-lt (a / 2 ^ j % 2) (b / 2 ^ j % 2) (omega arith) (omega arith))
-
--- Two bits, by whether they differ.
-same-bits : (a b : ℕ) → a < 2 → b < 2 → differ a b ≡ 0 → a ≡ b
-same-bits zero zero h k e = refl
-same-bits zero (suc b) h k e = absurd (omega arith)
-same-bits (suc zero) zero h k e = absurd (omega arith)
-same-bits (suc zero) (suc zero) h k e = refl
-same-bits (suc zero) (suc (suc b)) h k e = absurd (omega arith)
-same-bits (suc (suc a)) b h k e = absurd (omega arith)
-
-other-bits : (a : ℕ) → a < 2 → differ a a ≡ 0
-other-bits zero h = refl
-other-bits (suc zero) h = refl
-other-bits (suc (suc a)) h = absurd (omega arith)
+agreed : (a b : Bool) → (false or not (sameFlag a b)) ≡ true → a ≡ b → ⊥
+unfolding _or_ sameFlag
+agreed true true e q = false≢true e
+agreed true false e q = true≢false q
+agreed false true e q = false≢true q
+agreed false false e q = false≢true e
 
 module _ (l w a b : ℕ) where
+  by-lane : inLane l (bitOr w (bitXor a b)) ≡ (inLane l w or not (sameFlag (inLane l a) (inLane l b)))
+  by-lane = rw (lane-or l w (bitXor a b), lane-xor l a b)
+
   -- A lane that stays clear: it was clear, and the two agree there.
   pub or-xor-clear : inLane l (bitOr w (bitXor a b)) ≡ false → (inLane l w ≡ false) × (inLane l a ≡ inLane l b)
-  unfolding inLane
-  or-xor-clear h =
-      let n = eqb-false (bitOr w (bitXor a b) / 2 ^ l % 2) 1 h in
-      let o = bit-or l w (bitXor a b) in
-      let x = bit-xor l a b in
-      let z : bitXor a b / 2 ^ l % 2 ≡ 0 = elim (ℕ-discrete (bitOr w (bitXor a b) / 2 ^ l % 2) 1) [ yes e ↦ absurd (n e) | no e ↦ omega arith ] in
-      let y : w / 2 ^ l % 2 ≡ 0 = elim (ℕ-discrete (bitOr w (bitXor a b) / 2 ^ l % 2) 1) [ yes e ↦ absurd (n e) | no e ↦ omega arith ] in
-      (ne-eqb (w / 2 ^ l % 2) 1 (λ e. omega arith), ap (λ (d : ℕ). eqb d 1) (same-bits (a / 2 ^ l % 2) (b / 2 ^ l % 2) (omega arith) (omega arith) (sym x ∙ z)))
+  or-xor-clear h = gathered (inLane l w) (inLane l a) (inLane l b) (sym by-lane ∙ h)
 
-  -- A lane that is set: it was set, or the two differ there.
+  -- A lane that is newly set: the two differ there.
   pub or-xor-set : inLane l (bitOr w (bitXor a b)) ≡ true → inLane l w ≡ false → inLane l a ≡ inLane l b → ⊥
-  unfolding inLane
-  or-xor-set h c e =
-      let s = eqb-true (bitOr w (bitXor a b) / 2 ^ l % 2) 1 h in
-      let n = eqb-false (w / 2 ^ l % 2) 1 c in
-      let o = bit-or l w (bitXor a b) in
-      let x = bit-xor l a b in
-      let q : a / 2 ^ l % 2 ≡ b / 2 ^ l % 2 = flags (a / 2 ^ l % 2) (b / 2 ^ l % 2) (omega arith) (omega arith) e in
-      let d : differ (a / 2 ^ l % 2) (b / 2 ^ l % 2) ≡ 0 = rw q (other-bits (b / 2 ^ l % 2) (omega arith)) in
-      elim (ℕ-discrete (w / 2 ^ l % 2) 1) [ yes z ↦ n z | no z ↦ omega arith ]
-    where
-      flags : (u v : ℕ) → u < 2 → v < 2 → eqb u 1 ≡ eqb v 1 → u ≡ v
-      flags zero zero h k e = refl
-      flags zero (suc zero) h k e = absurd (false≢true e)
-      flags zero (suc (suc v)) h k e = absurd (omega arith)
-      flags (suc zero) zero h k e = absurd (true≢false e)
-      flags (suc zero) (suc zero) h k e = refl
-      flags (suc zero) (suc (suc v)) h k e = absurd (omega arith)
-      flags (suc (suc u)) v h k e = absurd (omega arith)
+  or-xor-set h c = agreed (inLane l a) (inLane l b) (ap (λ (x : Bool). x or not (sameFlag (inLane l a) (inLane l b))) (sym c) ∙ sym by-lane ∙ h)

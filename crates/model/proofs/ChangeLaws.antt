@@ -11,7 +11,8 @@ use lib.ListN.{getD}
 use Rattle.model.specs.Sets.{has}
 use Rattle.model.specs.Lanes.{inLane, lane, Changed}
 use Rattle.model.proofs.SetLaws.{length-setOf, has-setOf, set-ext}
-use Rattle.model.proofs.BitLaws.{none-set, or-xor-clear, or-xor-set}
+use Rattle.model.proofs.LaneLaws.{lane-none}
+use Rattle.model.proofs.BitLaws.{or-xor-clear, or-xor-set}
 
 -- Of the first o words, the lanes in which one differs.
 pub record Compared (before after : List ℕ) (word o : ℕ) : Type 0 where
@@ -19,7 +20,7 @@ pub record Compared (before after : List ℕ) (word o : ℕ) : Type 0 where
   pub other : (l : ℕ) → inLane l word ≡ true → ((j : ℕ) → j < o → inLane l (getD before j 0) ≡ inLane l (getD after j 0)) → ⊥
 
 pub compared-none : (before after : List ℕ) → Compared before after 0 0
-compared-none before after = record { same = λ l h j k. absurd (omega arith); other = λ l h s. absurd (true≢false (sym h ∙ none-set l)) }
+compared-none before after = record { same = λ l h j k. absurd (omega arith); other = λ l h s. absurd (true≢false (sym h ∙ lane-none l)) }
 
 pub compared-more : (before after : List ℕ) (word o : ℕ) → Compared before after word o
     → Compared before after (bitOr word (bitXor (getD before o 0) (getD after o 0))) (o + 1)

@@ -7,7 +7,7 @@ use native.Mathlib.Decide.{ℕ-discrete}
 use native.Mathlib.Omega.{arith}
 use lib.Dec.{eqb}
 use Rattle.model.specs.Lanes.{inLane, LaneSet, DigitLanes}
-use Rattle.model.proofs.BitLaws.{none-set}
+use Rattle.model.proofs.LaneLaws.{lane-none}
 
 -- The lanes below this one are set by their digit, the others not yet.
 pub record Laned (base power digit word lane : ℕ) : Type 0 where
@@ -15,7 +15,7 @@ pub record Laned (base power digit word lane : ℕ) : Type 0 where
   pub rest : (l : ℕ) → lane ≤ l → inLane l word ≡ false
 
 pub laned-none : (base power digit : ℕ) → Laned base power digit 0 0
-laned-none base power digit = record { below = λ l h. absurd (omega arith); rest = λ l h. none-set l }
+laned-none base power digit = record { below = λ l h. absurd (omega arith); rest = λ l h. lane-none l }
 
 pub laned-more : (base power digit word lane after : ℕ) → Laned base power digit word lane
     → LaneSet word lane (eqb ((base + lane) / power % 3) digit) after → Laned base power digit after (lane + 1)

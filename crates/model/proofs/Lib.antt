@@ -14,7 +14,11 @@ pub mod ByteLaws
 pub mod Support
 pub mod Orders
 pub mod Coherence
+-- Sixty-four scenarios in words, as the code meets them.
+pub mod LaneLaws
 pub mod BitLaws
+pub mod WordLaws
+pub mod ClosingLaws
 pub mod DigitLaws
 pub mod SeedLaws
 pub mod ChangeLaws

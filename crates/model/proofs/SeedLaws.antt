@@ -17,7 +17,7 @@ use Rattle.papers.specs.Valid.{All, each, Rising, Rising.next as above}
 use Rattle.papers.proofs.Walking.{next-number, no-number}
 use Rattle.model.specs.Scenarios.{digitOf}
 use Rattle.model.specs.Lanes.{inLane, DigitLanes}
-use Rattle.model.proofs.BitLaws.{none-set}
+use Rattle.model.proofs.LaneLaws.{lane-none}
 
 -- ---- one abducible more
 
@@ -49,7 +49,7 @@ pub record Seeded (base even odd : ℕ) (abducibles words : List ℕ) : Type 0 w
 module _ (base even odd : ℕ) where
   pub seeded-none : even < 3 → odd < 3 → Seeded base even odd [] (replicate 513 0)
   unfolding digitOf
-  seeded-none e d = record { long = length-replicate {A = ℕ} 513 0; at = λ l o h. rw (zeros o) (none-set l ∙ sym (none (eqb (o % 2) 1))) }
+  seeded-none e d = record { long = length-replicate {A = ℕ} 513 0; at = λ l o h. rw (zeros o) (lane-none l ∙ sym (none (eqb (o % 2) 1))) }
     where
       zeros : (o : ℕ) → _≡_ {A = ℕ} (getD (replicate 513 0) o 0) 0
       zeros o = elim (decLt o 513) [

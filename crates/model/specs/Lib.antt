@@ -7,4 +7,6 @@ pub mod LeastSet
 pub mod Model
 pub mod Falsity
 pub mod Lanes
+pub mod Words
+pub mod Closing
 pub mod Computing

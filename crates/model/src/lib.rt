@@ -1,4 +1,6 @@
-// The well-founded model of a scenario, sixty-four scenarios at a time.
+// The well-founded model of a scenario, sixty-four scenarios at a time, each in a lane of words.
 mod backing;
 mod changes;
 mod digits;
+mod lanes;
+mod truth;
