@@ -22,3 +22,4 @@ pub mod ClosingLaws
 pub mod DigitLaws
 pub mod SeedLaws
 pub mod ChangeLaws
+pub mod RoundLaws

@@ -9,4 +9,5 @@ pub mod Falsity
 pub mod Lanes
 pub mod Words
 pub mod Closing
+pub mod RoundLanes
 pub mod Computing

@@ -3,4 +3,5 @@ mod backing;
 mod changes;
 mod digits;
 mod lanes;
+mod settling;
 mod truth;
