@@ -19,6 +19,12 @@ pub mod LaneLaws
 pub mod BitLaws
 pub mod WordLaws
 pub mod ClosingLaws
+pub mod FoldWords
+pub mod EntryBytes
+pub mod EntryWords
+pub mod AnyEntry
+pub mod DroppedLaws
+pub mod ClosingFalse
 pub mod DigitLaws
 pub mod SeedLaws
 pub mod ChangeLaws

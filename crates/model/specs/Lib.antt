@@ -9,5 +9,6 @@ pub mod Falsity
 pub mod Lanes
 pub mod Words
 pub mod Closing
+pub mod FalseWords
 pub mod RoundLanes
 pub mod Computing

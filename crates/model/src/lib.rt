@@ -2,6 +2,7 @@
 mod backing;
 mod changes;
 mod digits;
+mod falsity;
 mod lanes;
 mod settling;
 mod truth;
