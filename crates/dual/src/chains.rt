@@ -13,7 +13,7 @@ pub struct Chains {
 }
 
 // From the last rule to the first, so that each chain rises.
-pub fn fold_chains(file: &[u8], contents: Contents, places: &[usize; 1280]) -> Chains
+pub(crate) fn fold_chains(file: &[u8], contents: Contents, places: &[usize; 1280]) -> Chains
     requires { ⌜ Walked (now file) contents (now places) ⌝ }
     ensures { λ r. ⌜ ChainsOf (programIn (now (file .entry))) (r .first) (r .next) ⌝ }
 {

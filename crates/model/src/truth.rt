@@ -56,7 +56,7 @@ fn close_pass(
 }
 
 // The true set closed under the rules, by the false set.
-pub fn close_true(
+pub(crate) fn close_true(
     file: &[u8],
     contents: Contents,
     places: &[usize; 1280],
