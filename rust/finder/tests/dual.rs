@@ -1,27 +1,19 @@
 //! Each slot of finder_write_dual, each byte of the buffer that it is lent,
 //! and the answer made of them, on hand-made files.
 
-use finder::{write_dual, write_dual_words, Paper, Refusal, WriteRefusal, SLOTS};
+mod papers;
 
-/// What `out` holds before a call; no answer here has such a word.
-const PATTERN: u64 = 0xA5A5_5A5A_C3C3_3C3C;
+use finder::{write_dual, write_dual_words, Paper, Refusal, WriteRefusal, SLOTS};
+use papers::{each_refused_file, FILE, FRONT, PATTERN};
 
 /// What the buffer holds before a call.
 const BYTE: u8 = 0xC3;
 
-/// The example of document 01.
-const FILE: &[u8] = &[
-    0x01, 0, 1, 1, 0x02, 0, 2, 0, 2, 0x03, 0, 2, 0, 1, 0x04, 0, 4, 0, 0, 0, 4, 0x7F, 0, 0,
-];
-
-/// Its dual: objective literals 0 and 1, then falsum, which is 4.
+/// The dual of `FILE`: objective literals 0 and 1, then falsum, which is 4.
 const DUAL: &[u8] = &[
     0x08, 0, 4, 0, 0, 0, 0, 0x09, 0, 4, 0, 0, 0, 5, // 0 and the only rule
     0x08, 0, 2, 0, 1, 0x08, 0, 2, 0, 4, 0x7F, 0, 0,
 ];
-
-/// The part of `FILE` before its rule: edition, two atoms, atom 1 abducible.
-const FRONT: &[u8] = FILE.split_at(14).0;
 
 /// Checks the eight words, the bytes of a buffer of so many bytes and the
 /// answer.
@@ -58,8 +50,7 @@ fn written(file: &[u8], dual: &[u8]) {
     }
 }
 
-fn refused(number: u8, place: usize, parts: &[&[u8]]) {
-    let file = parts.concat();
+fn refused(number: u8, place: usize, file: &[u8]) {
     let words = [number.into(), 0, place as u64, 0, 0, 0, 0, 0];
     let refusal = Refusal {
         number,
@@ -68,7 +59,7 @@ fn refused(number: u8, place: usize, parts: &[&[u8]]) {
     };
     for buffer_length in [0, 3, 100] {
         let answer = Err(WriteRefusal::File(refusal));
-        check(&file, buffer_length, words, &[], answer);
+        check(file, buffer_length, words, &[], answer);
     }
 }
 
@@ -83,18 +74,5 @@ fn the_dual_is_written_where_the_buffer_has_room() {
 
 #[test]
 fn each_refusal_of_the_file() {
-    refused(1, 0, &[]);
-    refused(1, 14, &[FRONT]);
-    refused(2, 14, &[FRONT, &[0x08, 0, 0]]);
-    refused(3, 14, &[FRONT, &[0x05, 0, 1, 0]]);
-    refused(4, 0, &[&[0x01, 0, 1, 2]]);
-    refused(5, 4, &[&[0x01, 0, 1, 1, 0x02, 0, 2, 1, 1]]);
-    refused(6, 14, &[FRONT, &[0x04, 0, 2, 0, 4]]);
-    refused(7, 9, &[&FRONT[..9], &[0x03, 0, 4, 0, 1, 0, 1]]);
-    refused(8, 14, &[FRONT, &[0x04, 0, 2, 0, 3]]);
-    let rules = [0x04, 0, 2, 0, 0].repeat(1025);
-    refused(9, 14 + 1024 * 5, &[FRONT, &rules]);
-    let integrity_rules = [0x05, 0, 0].repeat(257);
-    refused(9, 14 + 256 * 3, &[FRONT, &integrity_rules]);
-    refused(10, 24, &[FILE, &[0xFF]]);
+    each_refused_file(refused);
 }
