@@ -9,7 +9,7 @@ use native.Mathlib.Nat.{zero-div, pow-suc}
 use lib.Arith.{digits-mod, lt-one}
 use lib.Bits.{bitAnd, bitOr, bitXor, differ, and-shr, and-step, or-shr, or-step, xor-shr, xor-step, xor-add-and, and-mask}
 use lib.Dec.{eqb}
-use lib.ListN.{length, getD}
+use lib.ListN.{length, getD, replicate}
 use lib.Pow.{high, low, ones-split, ones-lt, shr-shr}
 use Rattle.model.specs.Tests.{_and_, _or_}
 use Rattle.model.specs.Sets.{has, sameFlag}
@@ -112,6 +112,12 @@ lane-full l h = in-bit l 18446744073709551615 ∙ rw (bit-full l h)
 pub lane-none : (l : ℕ) → inLane l 0 ≡ false
 unfolding inLane
 lane-none l = ap (λ (x : ℕ). eqb (x % 2) 1) (zero-div (2 ^ l))
+
+-- A row of zeros.
+pub zeros : (n o : ℕ) → _≡_ {A = ℕ} (getD (replicate n 0) o 0) 0
+zeros zero o = refl
+zeros (suc n) zero = refl
+zeros (suc n) (suc o) = zeros n o
 
 -- `!x` is what x lacks of the full word.
 pub lane-not : (l x : ℕ) → l < 64 → x < 18446744073709551616 → inLane l (18446744073709551615 - x) ≡ not (inLane l x)

@@ -29,3 +29,4 @@ pub mod DigitLaws
 pub mod SeedLaws
 pub mod ChangeLaws
 pub mod RoundLaws
+pub mod SettlingLaws

@@ -4,12 +4,12 @@ use mathlib.Core.Path.{_≡_, refl, sym, ap, subst, _∙_}
 use mathlib.Core.Bool.{Bool, true, false, cond, true≢false}
 use mathlib.Core.List.{List, [], _∷_, _++_, append-assoc, append-nil}
 use Prim.Native.Nat.{ℕ, suc, _+_, _*_, _/_, _%_, _^_, _≤_, _<_}
-use native.Mathlib.Decide.{ℕ-discrete, decLt}
+use native.Mathlib.Decide.{ℕ-discrete}
 use native.Mathlib.Nat.{div-div-eq-div-mul, pow-succ', pow-suc}
 use native.Mathlib.Omega.{arith}
 use borrow.Author.Tests.{eq-eqb, ne-eqb}
 use lib.Dec.{eqb}
-use lib.ListN.{length, getD, drop, set, replicate, length-set, length-append, length-replicate, getD-replicate, List·getD-eq-default}
+use lib.ListN.{length, getD, drop, set, replicate, length-set, length-append, length-replicate}
 use lib.Seq.{getD-set-same, getD-set-other}
 use Rattle.papers.specs.Field.{number, numbers}
 use Rattle.papers.specs.Content.{isAmong}
@@ -17,7 +17,7 @@ use Rattle.papers.specs.Valid.{All, each, Rising, Rising.next as above}
 use Rattle.papers.proofs.Walking.{next-number, no-number}
 use Rattle.model.specs.Scenarios.{digitOf}
 use Rattle.model.specs.Lanes.{inLane, DigitLanes}
-use Rattle.model.proofs.LaneLaws.{lane-none}
+use Rattle.model.proofs.LaneLaws.{lane-none, zeros}
 
 -- ---- one abducible more
 
@@ -49,14 +49,8 @@ pub record Seeded (base even odd : ℕ) (abducibles words : List ℕ) : Type 0 w
 module _ (base even odd : ℕ) where
   pub seeded-none : even < 3 → odd < 3 → Seeded base even odd [] (replicate 513 0)
   unfolding digitOf
-  seeded-none e d = record { long = length-replicate {A = ℕ} 513 0; at = λ l o h. rw (zeros o) (lane-none l ∙ sym (none (eqb (o % 2) 1))) }
+  seeded-none e d = record { long = length-replicate {A = ℕ} 513 0; at = λ l o h. rw (zeros 513 o) (lane-none l ∙ sym (none (eqb (o % 2) 1))) }
     where
-      zeros : (o : ℕ) → _≡_ {A = ℕ} (getD (replicate 513 0) o 0) 0
-      zeros o = elim (decLt o 513) [
-        | yes h ↦ getD-replicate {A = ℕ} 513 o 0 0 h
-        | no h ↦ List·getD-eq-default (replicate 513 0) 0 {n = o} (let k = length-replicate {A = ℕ} 513 0 in omega arith)
-      ]
-
       none : (b : Bool) → eqb 3 (cond b odd even) ≡ false
       none true = ne-eqb 3 odd (λ q. omega arith)
       none false = ne-eqb 3 even (λ q. omega arith)

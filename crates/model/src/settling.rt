@@ -1,10 +1,15 @@
 // Rounds: T, P and F of 64 scenarios, from one pair to the next.
 ghost use mathlib.Core.Path.{_≡_};
+ghost use mathlib.Core.Bool.{cond};
+ghost use Prim.Native.Nat.{_<_};
 ghost use Rattle.papers.specs.Reading.{programIn};
 ghost use Rattle.papers.specs.Places.{Walked};
 ghost use Rattle.model.specs.FalseWords.{DualStarts};
-ghost use Rattle.model.specs.RoundLanes.{ComplementWords, NextRound};
+ghost use Rattle.model.specs.Lanes.{inLane};
+ghost use Rattle.model.specs.RoundLanes.{ComplementWords, NextRound, MarkedLanes, SettledLanes};
 use crate::backing::backing_words;
+use crate::changes::changed_lanes;
+use crate::digits::abducible_lanes;
 use crate::falsity::close_false;
 use crate::truth::close_true;
 use papers::Contents;
@@ -52,4 +57,67 @@ pub(crate) fn next_round(
     close_false(file, dual, count, &held, &backing, &mut f);
     let p = complement_words(&f);
     Model { t, p, f }
+}
+
+// One of two numbers, by a lane of a word.
+fn by_lane(word: u64, lane: usize, set: u64, clear: u64) -> u64
+    requires { ⌜ lane < 64 ⌝ }
+    ensures { λ r. ⌜ r ≡ cond (inLane lane word) set clear ⌝ }
+{
+    if (word >> lane) % 2 == 1 { set } else { clear }
+}
+
+// A number noted for each lane of a word.
+fn mark_lanes(word: u64, number: u64, before: [u64; 64]) -> [u64; 64]
+    ensures { λ r. ⌜ MarkedLanes word number before r ⌝ }
+{
+    let mut marked = [0u64; 64];
+    let mut lane: usize = 0;
+    while lane < 64 {
+        marked[lane] = by_lane(word, lane, number, before[lane]);
+        lane += 1;
+    }
+    marked
+}
+
+// The models of 64 scenarios, and the round count of each.
+pub struct Settled {
+    pub model: Model,
+    pub rounds: [u64; 64],
+}
+
+// From J0, round after round until one changes no lane. A lane's round count is the last round that changed it.
+pub fn settle(
+    file: &[u8],
+    contents: Contents,
+    places: &[usize; 1280],
+    dual: &[u8],
+    base: u64,
+) -> Settled
+    requires { ⌜ Walked (now file) contents (now places) × (DualStarts (programIn (now file)) (now dual) × (base < 4294967296)) ⌝ }
+    ensures { λ r. ⌜ SettledLanes (programIn (now (file .entry))) base (r .model .t) (r .model .f) (r .rounds) × ComplementWords (r .model .f) (r .model .p) ⌝ }
+{
+    let seeds = abducible_lanes(file, contents, base);
+    let trues = seeds.trues;
+    let falses = seeds.falses;
+    let count = 2 * (contents.atoms as usize) + 1;
+    let mut model = Model {
+        t: [0; 513],
+        p: [18446744073709551615; 513],
+        f: [0; 513],
+    };
+    let mut rounds = [0u64; 64];
+    let mut round: u64 = 0;
+    let mut going = true;
+    while going {
+        let next = next_round(file, contents, places, dual, &trues, &falses, model);
+        let changed = changed_lanes(&model.t, &next.t, count)
+            | changed_lanes(&model.f, &next.f, count);
+        round += 1;
+        let marked = mark_lanes(changed, round, rounds);
+        rounds = marked;
+        model = next;
+        going = changed != 0;
+    }
+    Settled { model, rounds }
 }

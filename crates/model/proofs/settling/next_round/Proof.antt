@@ -32,13 +32,16 @@ add-count : tie.Need-add-count
 add-count c = search needs
 
 close-false-requires : tie.Need-close-false-requires
-close-false-requires c κs = let e = atoms-are (now (c .before .before .before .before .before .before .before .before .before .before .before .before .before .before .args .file)) (c .before .before .before .before .before .before .before .before .before .before .before .before .before .before .args .contents) (c .before .before .before .before .before .before .before .before .before .before .before .before .before .before .pre .0 .answer) in (c .before .before .before .before .before .before .before .before .before .before .before .before .before .before .pre .1, omega arith)
+close-false-requires c κs =
+    let e = atoms-are (now (c .before .before .before .before .before .before .before .before .before .before .before .before .before .before .args .file)) (c .before .before .before .before .before .before .before .before .before .before .before .before .before .before .args .contents) (c .before .before .before .before .before .before .before .before .before .before .before .before .before .before .pre .0 .answer) in
+    (c .before .before .before .before .before .before .before .before .before .before .before .before .before .before .pre .1, omega arith)
 
 complement-words-requires : tie.Need-complement-words-requires
 complement-words-requires c κs = search needs
 
 returns : tie.Need-returns
-returns c = let a = c .before .before .before .before .before .before .before .before .before .before .before .before .before .before .before .before .before .args in
+returns c =
+    let a = c .before .before .before .before .before .before .before .before .before .before .before .before .before .before .before .before .before .args in
     let trues = now (a .trues) in
     let falses = now (a .falses) in
     let held = a .before .t in
