@@ -125,13 +125,22 @@ module _ (bytes buffer : List ℕ) (p : Program) (is : readFile bytes ≡ accept
   same-size : length (dualOf p) ≡ size
   same-size = dual-length p ∙ sym sized
 
-  pub dual-short : length buffer < size → (Short ≡ dualAnswer (readFile bytes) (length buffer)) × (buffer ≡ dualAfter (readFile bytes) buffer)
-  dual-short h =
+  pub dual-short : (allowed : Bool) → length buffer < size
+      → (Short ≡ dualAnswer (readFile bytes) (length buffer)) × (buffer ≡ cond allowed (dualAfter (readFile bytes) buffer) buffer)
+  dual-short allowed h =
       let t : leb (length (dualOf p)) (length buffer) ≡ false = rw same-size (lt-leb size (length buffer) h) in
-      (rw (is, t), rw (is, t))
+      (rw (is, t), rw (is, t) (go allowed)) where
+        go : (b : Bool) → buffer ≡ cond b buffer buffer
+        go true = refl
+        go false = refl
 
-  pub dual-fits : size ≤ length buffer → (after : List ℕ) → after ≡ filled (dualOf p) buffer
-      → (Length size ≡ dualAnswer (readFile bytes) (length buffer)) × (after ≡ dualAfter (readFile bytes) buffer)
+  -- Where it fits, the answer is its length, whether it is written or not.
+  pub dual-length-is : size ≤ length buffer → Length size ≡ dualAnswer (readFile bytes) (length buffer)
+  dual-length-is h =
+      let t : leb (length (dualOf p)) (length buffer) ≡ true = rw same-size (le-leb size (length buffer) h) in
+      rw (is, t) (ap Length (sym same-size))
+
+  pub dual-fits : size ≤ length buffer → (after : List ℕ) → after ≡ filled (dualOf p) buffer → after ≡ dualAfter (readFile bytes) buffer
   dual-fits h after e =
       let t : leb (length (dualOf p)) (length buffer) ≡ true = rw same-size (le-leb size (length buffer) h) in
-      (rw (is, t) (ap Length (sym same-size)), rw (is, t) e)
+      rw (is, t) e

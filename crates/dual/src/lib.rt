@@ -4,11 +4,10 @@ mod entries;
 mod writing;
 
 ghost use mathlib.Core.Path.{_≡_};
-ghost use Prim.Native.Nat.{_≤_};
+ghost use mathlib.Core.Bool.{cond};
 ghost use lib.ListN.{length};
-ghost use Rattle.papers.specs.declared.FileRead.{FileRead};
 ghost use Rattle.papers.specs.Reading.{readFile};
-ghost use Rattle.papers.specs.Answers.{fileAnswer};
+ghost use Rattle.papers.specs.Places.{Walked};
 ghost use Rattle.dual.specs.Answers.{dualAnswer, dualAfter};
 use chains::fold_chains;
 use entries::dual_length;
@@ -25,20 +24,28 @@ pub enum DualWritten {
     Refused(Refusal),
 }
 
-// The dual of a file that was read already.
-pub fn write_accepted(file: &[u8], contents: Contents, dual: &mut [u8]) -> DualWritten
-    requires { ⌜ fileAnswer (readFile (now file)) ≡ FileRead.Accepted contents ⌝ }
-    ensures { λ r. ⌜ (r ≡ dualAnswer (readFile (now (file .entry))) (length (now (dual .entry)))) × (now (dual .exit) ≡ dualAfter (readFile (now (file .entry))) (now (dual .entry))) ⌝ }
+// The dual of a file that was read already, into a buffer that stays as it is where `allowed` is false.
+pub fn write_accepted(
+    file: &[u8],
+    contents: Contents,
+    places: &[usize; 1280],
+    dual: &mut [u8],
+    allowed: bool,
+) -> DualWritten
+    requires { ⌜ Walked (now file) contents (now places) ⌝ }
+    ensures { λ r. ⌜ (r ≡ dualAnswer (readFile (now (file .entry))) (length (now (dual .entry)))) × (now (dual .exit) ≡ cond allowed (dualAfter (readFile (now (file .entry))) (now (dual .entry))) (now (dual .entry))) ⌝ }
 {
-    let places = papers::folds::fold_places(file, contents);
-    let chains = fold_chains(file, contents, &places);
+    let chains = fold_chains(file, contents, places);
     let first = chains.first;
     let next = chains.next;
-    let size = dual_length(file, contents, &places, &first, &next);
+    let size = dual_length(file, contents, places, &first, &next);
     if dual.len() < size {
         return DualWritten::Short;
     }
-    let end = write_entries(dual, file, contents, &places, &first, &next);
+    if !allowed {
+        return DualWritten::Length(size);
+    }
+    let end = write_entries(dual, file, contents, places, &first, &next);
     write_end(&mut dual[end..]);
     DualWritten::Length(size)
 }
@@ -53,5 +60,6 @@ pub fn write_dual(file: &[u8], dual: &mut [u8]) -> DualWritten
         };
         return DualWritten::Refused(refusal);
     };
-    write_accepted(file, contents, dual)
+    let places = papers::folds::fold_places(file, contents);
+    write_accepted(file, contents, &places, dual, true)
 }

@@ -29,8 +29,11 @@ returns c = search needs
 returns-2 : tie.Need-returns-2
 returns-2 c = let e = file-refused (readFile (now (c .before .before .before .before .before .before .before .before .before .args .file))) (c .before .before .before .before .before .before .read-file .ensures) (c .before .before .before .before .read2 .given .1 ∙ c .before .read3 .given .1) in (rw e, rw e)
 
+fold-places-requires : tie.Need-fold-places-requires
+fold-places-requires c κs = sym (c .before .before .before .read-file .ensures) ∙ c .before .read .given .1
+
 write-accepted-requires : tie.Need-write-accepted-requires
-write-accepted-requires c κs = sym (c .before .before .before .before .read-file .ensures) ∙ c .before .before .read .given .1
+write-accepted-requires c κs = search needs
 
 same-length : tie.Need-same-length
 same-length c = search needs
@@ -49,6 +52,7 @@ write-dual-spec =
     enum-told
     returns
     returns-2
+    fold-places-requires
     write-accepted-requires
     same-length
     returns-3)
