@@ -30,3 +30,4 @@ pub mod SeedLaws
 pub mod ChangeLaws
 pub mod RoundLaws
 pub mod SettlingLaws
+pub mod VerdictLaws

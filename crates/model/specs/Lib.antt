@@ -11,4 +11,6 @@ pub mod Words
 pub mod Closing
 pub mod FalseWords
 pub mod RoundLanes
+pub mod VerdictLanes
+pub mod Judging
 pub mod Computing

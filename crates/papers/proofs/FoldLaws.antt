@@ -57,10 +57,10 @@ fold-next p i h = rw (add-one, take-suc (fieldNumbers p) i [] h, fields-append) 
 -- ---- a field of numbers at a place
 
 -- The numbers stand there as a field of some tag, before some rest.
-record FieldAt (place : ℕ) (bytes ns : List ℕ) : Type 0 where
-  tag : ℕ
-  rest : List ℕ
-  is : drop place bytes ≡ encodeField tag (encodeNumbers ns) ++ rest
+pub record FieldAt (place : ℕ) (bytes ns : List ℕ) : Type 0 where
+  pub tag : ℕ
+  pub rest : List ℕ
+  pub is : drop place bytes ≡ encodeField tag (encodeNumbers ns) ++ rest
 
 module _ {place : ℕ} {bytes ns : List ℕ} (field : FieldAt place bytes ns) where
   at-size : sizeOf (drop place bytes) ≡ 2 * length ns
@@ -74,7 +74,7 @@ module _ {place : ℕ} {bytes ns : List ℕ} (field : FieldAt place bytes ns) wh
       let a = ap length (field .is) ∙ length-append (encodeField (field .tag) (encodeNumbers ns)) (field .rest) in
       omega arith
 
-  at-content : numbers (take (2 * length ns) (drop (place + 3) bytes)) ≡ ns
+  pub at-content : numbers (take (2 * length ns) (drop (place + 3) bytes)) ≡ ns
   unfolding encodeField
   at-content =
       let three = drop-drop 3 place bytes in

@@ -20,3 +20,4 @@ pub mod Answered
 pub mod RulesAnswers
 pub mod FileAnswers
 pub mod FoldAnswers
+pub mod PapersAnswers
