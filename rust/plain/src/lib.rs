@@ -7,21 +7,39 @@
 //! * "Numberings" is [`numbering`];
 //! * "The file and the sheet" is [`field`], [`program`], [`refusal`],
 //!   [`read`] and [`mod@write`];
-//! * "The dual table" is [`mod@dual`].
+//! * "The dual table" is [`mod@dual`];
+//! * "Scenarios and the model" is [`scenario`], [`sets`] and [`mod@model`],
+//!   with falsity from the dual in [`falsity`];
+//! * "The search" is [`search`], and what the desk program prints [`mod@desk`].
 
 #![forbid(unsafe_code)]
 
+pub mod desk;
 pub mod dual;
+pub mod falsity;
 pub mod field;
+pub mod model;
 pub mod numbering;
 pub mod program;
 pub mod read;
 pub mod refusal;
+pub mod scenario;
+pub mod search;
+pub mod sets;
 pub mod write;
 
+pub use desk::desk;
 pub use dual::{dual, write_dual, Dual, Entry, Folding};
-pub use numbering::{Atom, Fold, Literal, ObjectiveLiteral};
+pub use falsity::next_false_by_dual;
+pub use model::{explains, judge, model, Interpretation, Judgement, Model};
+pub use numbering::{Atom, Fold, Form, Literal, ObjectiveLiteral};
 pub use program::{Program, Query, Rule};
 pub use read::{read_file, read_papers, read_sheet, rest_of_paper};
-pub use refusal::{Number, Paper, Refusal, WriteRefusal};
+pub use refusal::{ContinueRefusal, JudgeRefusal, Number, Paper, Refusal, WriteRefusal};
+pub use scenario::{contains_assumptions, digits, scenario_count, Digit, Valuation, Value};
+pub use search::{
+    continue_search, explanations, minimal_explanations, minimal_of, stopping_point, Continued,
+    Record, Search, State,
+};
+pub use sets::JudgedSet;
 pub use write::{encode_dual, encode_file, encode_sheet};

@@ -25,6 +25,33 @@ impl ObjectiveLiteral {
         ObjectiveLiteral(2 * atoms)
     }
 
+    /// The atom itself.
+    pub fn of(atom: Atom) -> Self {
+        ObjectiveLiteral(2 * atom.0)
+    }
+
+    /// The explicit negation of the atom.
+    pub fn negation_of(atom: Atom) -> Self {
+        ObjectiveLiteral(2 * atom.0 + 1)
+    }
+
+    /// The judged literals: every objective literal, falsum last. They are
+    /// N = 2n+1.
+    pub fn judged(atoms: u16) -> impl Iterator<Item = ObjectiveLiteral> {
+        (0..=ObjectiveLiteral::falsum(atoms).0).map(ObjectiveLiteral)
+    }
+
+    /// An atom and its explicit negation are conjugates; falsum has none.
+    pub fn conjugate(self, atoms: u16) -> Option<ObjectiveLiteral> {
+        if self == ObjectiveLiteral::falsum(atoms) {
+            None
+        } else if self == ObjectiveLiteral::of(self.atom()) {
+            Some(ObjectiveLiteral::negation_of(self.atom()))
+        } else {
+            Some(ObjectiveLiteral::of(self.atom()))
+        }
+    }
+
     pub fn is_listed(self, atoms: u16) -> bool {
         u32::from(self.0) < 2 * u32::from(atoms)
     }
@@ -39,9 +66,27 @@ impl ObjectiveLiteral {
 #[derive(Clone, Copy, Debug, PartialEq, Eq, PartialOrd, Ord, Hash)]
 pub struct Literal(pub u16);
 
+/// A literal taken apart.
+#[derive(Clone, Copy, Debug, PartialEq, Eq)]
+pub enum Form {
+    /// o.
+    Objective(ObjectiveLiteral),
+    /// not(o).
+    Not(ObjectiveLiteral),
+}
+
 impl Literal {
     pub fn is_listed(self, atoms: u16) -> bool {
         u32::from(self.0) < 4 * u32::from(atoms)
+    }
+
+    pub fn form(self) -> Form {
+        let literal = ObjectiveLiteral(self.0 / 2);
+        if self.0.is_multiple_of(2) {
+            Form::Objective(literal)
+        } else {
+            Form::Not(literal)
+        }
     }
 
     /// The literal with not added, or removed where it is there.

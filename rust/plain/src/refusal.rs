@@ -1,5 +1,5 @@
-//! Refusals 1 to 10, which name a paper and a place in it, and those of
-//! writing the dual, which has 11 too.
+//! Refusals 1 to 10, which name a paper and a place in it, and those of each
+//! call: writing the dual has 11 too, judging 11 to 13, continuing 11 and 14.
 
 use std::fmt;
 
@@ -77,6 +77,52 @@ impl WriteRefusal {
         match self {
             WriteRefusal::File(refusal) => refusal.number as u8,
             WriteRefusal::ShortDual => 11,
+        }
+    }
+}
+
+/// Why a scenario was not judged.
+#[derive(Clone, Copy, Debug, PartialEq, Eq)]
+pub enum JudgeRefusal {
+    /// 1 to 10: one of the papers is not accepted.
+    Papers(Refusal),
+    /// 11: the lent dual buffer is shorter than the dual.
+    ShortDual,
+    /// 12: the lent model buffer is shorter than N.
+    ShortModel,
+    /// 13: the scenario's number is not below 3^k.
+    NoScenario,
+}
+
+impl JudgeRefusal {
+    pub fn number(&self) -> u8 {
+        match self {
+            JudgeRefusal::Papers(refusal) => refusal.number as u8,
+            JudgeRefusal::ShortDual => 11,
+            JudgeRefusal::ShortModel => 12,
+            JudgeRefusal::NoScenario => 13,
+        }
+    }
+}
+
+/// Why a search was not continued.
+#[derive(Clone, Copy, Debug, PartialEq, Eq)]
+pub enum ContinueRefusal {
+    /// 1 to 10: one of the papers is not accepted.
+    Papers(Refusal),
+    /// 11: the lent dual buffer is shorter than the dual.
+    ShortDual,
+    /// 14: position above 3^k, found above list length, or the first found
+    /// entries not strictly rising or not all below position.
+    SpoiltSearch,
+}
+
+impl ContinueRefusal {
+    pub fn number(&self) -> u8 {
+        match self {
+            ContinueRefusal::Papers(refusal) => refusal.number as u8,
+            ContinueRefusal::ShortDual => 11,
+            ContinueRefusal::SpoiltSearch => 14,
         }
     }
 }

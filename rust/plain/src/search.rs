@@ -1,0 +1,247 @@
+//! The search.
+//!
+//! [`minimal_explanations`] and [`stopping_point`] are the definition: all
+//! explanations first, then the minimal ones. Continuing goes by the general
+//! rule, which holds for any record that passes test 14; on a search reached
+//! from a fresh one the two agree, and the tests compare them there.
+
+use std::collections::HashMap;
+use std::fmt;
+
+use crate::dual::dual;
+use crate::model::{explains, Judgement};
+use crate::program::{Program, Query};
+use crate::read::read_papers;
+use crate::refusal::ContinueRefusal;
+use crate::scenario::{contains_assumptions, scenario_count};
+use crate::write::encode_dual;
+
+/// All explanations, rising.
+pub fn explanations(program: &Program, query: &Query) -> Vec<u32> {
+    (0..scenario_count(program))
+        .filter(|&scenario| explains(program, query, scenario))
+        .collect()
+}
+
+/// The minimal explanations, rising.
+pub fn minimal_explanations(program: &Program, query: &Query) -> Vec<u32> {
+    minimal_of(&explanations(program, query))
+}
+
+/// An explanation is minimal if no other explanation has only part of its
+/// assumptions.
+pub fn minimal_of(explanations: &[u32]) -> Vec<u32> {
+    let is_minimal = |scenario: u32| {
+        !explanations
+            .iter()
+            .any(|&other| other != scenario && contains_assumptions(scenario, other))
+    };
+    let mut minimal = explanations.to_vec();
+    minimal.retain(|&scenario| is_minimal(scenario));
+    minimal
+}
+
+/// The stopping point of a search reached from a fresh one: the number of
+/// minimal explanation L+1 in rising order, else 3^k.
+pub fn stopping_point(program: &Program, minimal: &[u32], list_length: usize) -> u32 {
+    match minimal.get(list_length) {
+        Some(&scenario) => scenario,
+        None => scenario_count(program),
+    }
+}
+
+/// How far a search has come.
+#[derive(Clone, Copy, Debug, PartialEq, Eq)]
+pub struct Record {
+    pub position: u32,
+    pub found: u32,
+}
+
+impl Record {
+    /// Fresh record: position 0, found 0.
+    pub const FRESH: Record = Record {
+        position: 0,
+        found: 0,
+    };
+}
+
+/// What became of a call.
+#[derive(Clone, Copy, Debug, PartialEq, Eq)]
+pub enum State {
+    Ended,
+    Full,
+    Going,
+}
+
+impl fmt::Display for State {
+    fn fmt(&self, f: &mut fmt::Formatter) -> fmt::Result {
+        f.write_str(match self {
+            State::Ended => "ended",
+            State::Full => "full",
+            State::Going => "going",
+        })
+    }
+}
+
+/// What continuing reports.
+#[derive(Clone, Copy, Debug, PartialEq, Eq)]
+pub struct Continued {
+    /// The new record: its position is the old one plus tried.
+    pub record: Record,
+    pub tried: u32,
+    /// The round counts of the scenarios tried added up.
+    pub rounds: u64,
+    pub state: State,
+}
+
+/// Continues the search of the record. Leaves the dual at the start of the dual
+/// buffer and adds to the list, whose entries beyond found stay; where
+/// continuing is refused both stay.
+pub fn continue_search(
+    file: &[u8],
+    sheet: &[u8],
+    dual_buffer: &mut [u8],
+    list: &mut [u32],
+    record: Record,
+    allowance: u32,
+) -> Result<Continued, ContinueRefusal> {
+    let (program, query) = read_papers(file, sheet).map_err(ContinueRefusal::Papers)?;
+    Search::new(program, query).continue_search(dual_buffer, list, record, allowance)
+}
+
+/// Both papers, read once for many calls.
+#[derive(Clone, Debug)]
+pub struct Search {
+    program: Program,
+    query: Query,
+    dual: Vec<u8>,
+    /// The judgement of each scenario judged so far, where they are kept.
+    kept: Option<HashMap<u32, Judgement>>,
+}
+
+impl Search {
+    /// Judges a scenario each time that a call looks at it.
+    pub fn new(program: Program, query: Query) -> Self {
+        Search {
+            dual: encode_dual(&dual(&program)),
+            program,
+            query,
+            kept: None,
+        }
+    }
+
+    /// Judges a scenario only the first time that a call looks at it.
+    pub fn keeping(program: Program, query: Query) -> Self {
+        Search {
+            kept: Some(HashMap::new()),
+            ..Search::new(program, query)
+        }
+    }
+
+    pub fn program(&self) -> &Program {
+        &self.program
+    }
+
+    /// Continues as [`continue_search`] does with the two papers.
+    pub fn continue_search(
+        &mut self,
+        dual_buffer: &mut [u8],
+        list: &mut [u32],
+        record: Record,
+        allowance: u32,
+    ) -> Result<Continued, ContinueRefusal> {
+        let Some(dual_start) = dual_buffer.get_mut(..self.dual.len()) else {
+            return Err(ContinueRefusal::ShortDual);
+        };
+        if self.is_spoilt(list, record) {
+            return Err(ContinueRefusal::SpoiltSearch);
+        }
+        dual_start.copy_from_slice(&self.dual);
+        Ok(self.try_scenarios(list, record, allowance))
+    }
+
+    /// Test 14: position above 3^k, found above list length, or the first found
+    /// entries not strictly rising or not all below position.
+    fn is_spoilt(&self, list: &[u32], record: Record) -> bool {
+        let Some(entries) = list.get(..record.found as usize) else {
+            return true;
+        };
+        let are_rising = entries.windows(2).all(|pair| pair[0] < pair[1]);
+        let are_below = entries.iter().all(|&entry| entry < record.position);
+        record.position > scenario_count(&self.program) || !are_rising || !are_below
+    }
+
+    /// Tries min(w, stop - p) scenarios and adds to the list those that are
+    /// minimal: explanations containing no listed entry's assumptions, listed
+    /// entries including those this call adds. The stopping point is the first
+    /// of these that finds the list full, else 3^k. It is looked at but not
+    /// tried and adds no rounds.
+    fn try_scenarios(&mut self, list: &mut [u32], record: Record, allowance: u32) -> Continued {
+        let Record {
+            mut position,
+            mut found,
+        } = record;
+        let mut tried = 0;
+        let mut rounds = 0;
+        while tried < allowance && position < scenario_count(&self.program) {
+            let judgement = self.judgement(position);
+            let listed = &list[..found as usize];
+            if judgement.explains && !contains_listed(position, listed) {
+                let Some(entry) = list.get_mut(found as usize) else {
+                    break;
+                };
+                *entry = position;
+                found += 1;
+            }
+            position += 1;
+            tried += 1;
+            rounds += judgement.rounds;
+        }
+        Continued {
+            record: Record { position, found },
+            tried,
+            rounds,
+            state: self.state(position, tried, allowance),
+        }
+    }
+
+    /// Ended: position is 3^k. Full: not ended and tried is below the
+    /// allowance. Else going.
+    fn state(&self, position: u32, tried: u32, allowance: u32) -> State {
+        if position == scenario_count(&self.program) {
+            State::Ended
+        } else if tried < allowance {
+            State::Full
+        } else {
+            State::Going
+        }
+    }
+
+    /// The judgement of the scenario, which is below 3^k.
+    pub fn judgement(&mut self, scenario: u32) -> Judgement {
+        let judge = || Judgement::of(&self.program, &self.query, scenario);
+        match &mut self.kept {
+            Some(kept) => *kept.entry(scenario).or_insert_with(judge),
+            None => judge(),
+        }
+    }
+
+    /// All explanations, rising.
+    pub fn explanations(&mut self) -> Vec<u32> {
+        (0..scenario_count(&self.program))
+            .filter(|&scenario| self.judgement(scenario).explains)
+            .collect()
+    }
+
+    /// The minimal explanations, rising.
+    pub fn minimal_explanations(&mut self) -> Vec<u32> {
+        minimal_of(&self.explanations())
+    }
+}
+
+/// Whether the scenario contains a listed entry's assumptions.
+fn contains_listed(scenario: u32, listed: &[u32]) -> bool {
+    listed
+        .iter()
+        .any(|&entry| contains_assumptions(scenario, entry))
+}

@@ -1,0 +1,157 @@
+//! Continuing from random records with random lists, not reached from a fresh
+//! search, and test 14 on them.
+//!
+//! What the general rule adds is found here all at once: of the explanations at
+//! or after the position that contain no listed entry's assumptions, those that
+//! contain no other of them. The first of them that has no room is the stopping
+//! point.
+
+use plain::{
+    contains_assumptions, minimal_of, scenario_count, ContinueRefusal, Continued, Record, Search,
+    State,
+};
+
+use crate::random::{program, query, Random};
+
+const PROGRAMS: usize = 2_000;
+const RECORDS: usize = 30;
+
+/// What the random records reached.
+#[derive(Debug, Default)]
+struct Reached {
+    spoilt: usize,
+    ended: usize,
+    full: usize,
+    going: usize,
+    added: usize,
+    /// Entries added that are not minimal by the definition.
+    not_minimal: usize,
+    /// Minimal explanations tried and not added.
+    left_out: usize,
+}
+
+/// Test 14 in other words.
+fn is_spoilt(scenarios: u32, list: &[u32], record: Record) -> bool {
+    let found = record.found as usize;
+    if record.position > scenarios || found > list.len() {
+        return true;
+    }
+    let mut sorted = list[..found].to_vec();
+    sorted.sort_unstable();
+    sorted.dedup();
+    sorted != list[..found] || sorted.last().is_some_and(|&last| last >= record.position)
+}
+
+/// What the general rule says, and the entries it adds.
+fn expected(
+    search: &mut Search,
+    list: &[u32],
+    record: Record,
+    allowance: u32,
+) -> (Continued, Vec<u32>) {
+    let scenarios = scenario_count(search.program());
+    let (listed, room) = list.split_at(record.found as usize);
+    let mut candidates = search.explanations();
+    candidates.retain(|&scenario| {
+        let mut listed = listed.iter();
+        scenario >= record.position && !listed.any(|&entry| contains_assumptions(scenario, entry))
+    });
+    let mut added = minimal_of(&candidates);
+    let stop = added.get(room.len()).copied().unwrap_or(scenarios);
+    let tried = allowance.min(stop - record.position);
+    let position = record.position + tried;
+    added.retain(|&scenario| scenario < position);
+    let tried_scenarios = record.position..position;
+    let continued = Continued {
+        record: Record {
+            position,
+            found: record.found + added.len() as u32,
+        },
+        tried,
+        rounds: tried_scenarios
+            .map(|scenario| search.judgement(scenario).rounds)
+            .sum(),
+        state: match (position == scenarios, tried < allowance) {
+            (true, _) => State::Ended,
+            (false, true) => State::Full,
+            (false, false) => State::Going,
+        },
+    };
+    (continued, added)
+}
+
+fn count(search: &mut Search, continued: &Continued, added: &[u32], reached: &mut Reached) {
+    match continued.state {
+        State::Ended => reached.ended += 1,
+        State::Full => reached.full += 1,
+        State::Going => reached.going += 1,
+    }
+    let minimal = search.minimal_explanations();
+    reached.added += added.len();
+    let is_minimal = |scenario: &&u32| minimal.contains(scenario);
+    reached.not_minimal += added.len() - added.iter().filter(is_minimal).count();
+    let end = continued.record.position;
+    let tried = end - continued.tried..end;
+    let is_left_out = |scenario: &&u32| tried.contains(scenario) && !added.contains(scenario);
+    reached.left_out += minimal.iter().filter(is_left_out).count();
+}
+
+fn compare(random: &mut Random, search: &mut Search, reached: &mut Reached) {
+    let scenarios = scenario_count(search.program());
+    let number = |random: &mut Random| random.below(scenarios as usize + 2) as u32;
+    let length = random.below(5);
+    let mut list: Vec<u32> = (0..length).map(|_| number(random)).collect();
+    let found = random.below(length + 2).min(random.below(length + 2));
+    if !random.one_in(5) {
+        list.sort_unstable();
+        list.dedup();
+    }
+    let record = Record {
+        position: number(random).max(number(random)),
+        found: found as u32,
+    };
+    let allowance = random.pick(&[0, 1, 2, 3, 5, 9, 20, u32::MAX]);
+
+    let before = list.clone();
+    let mut dual = vec![0; 60_000];
+    let answer = search.continue_search(&mut dual, &mut list, record, allowance);
+    if is_spoilt(scenarios, &before, record) {
+        assert_eq!(answer, Err(ContinueRefusal::SpoiltSearch));
+        assert_eq!(list, before);
+        reached.spoilt += 1;
+        return;
+    }
+    let (continued, added) = expected(search, &before, record, allowance);
+    assert_eq!(answer, Ok(continued));
+    let after = found + added.len();
+    assert_eq!(list[..found], before[..found]);
+    assert_eq!(list[found..after], added);
+    assert_eq!(list[after..], before[after..]);
+    count(search, &continued, &added, reached);
+}
+
+#[test]
+fn any_record_goes_by_the_general_rule() {
+    let mut random = Random::new(19);
+    let mut reached = Reached::default();
+    for _ in 0..PROGRAMS {
+        let program = program(&mut random, 4, 4);
+        let query = query(&mut random, &program);
+        let mut search = Search::keeping(program, query);
+        for _ in 0..RECORDS {
+            compare(&mut random, &mut search, &mut reached);
+        }
+    }
+    let Reached {
+        spoilt,
+        ended,
+        full,
+        going,
+        added,
+        not_minimal,
+        left_out,
+    } = reached;
+    let counts = [spoilt, ended, full, going, added, not_minimal];
+    assert!(counts.iter().all(|&count| count > PROGRAMS), "{reached:?}");
+    assert!(left_out > PROGRAMS / 10, "{reached:?}");
+}
