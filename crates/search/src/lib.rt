@@ -1,1 +1,2 @@
-// The search for minimal explanations: its definitions stand in specs/, its laws in proofs/. No function is here yet.
+// The search for minimal explanations.
+mod parts;
