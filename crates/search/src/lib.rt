@@ -1,2 +1,3 @@
 // The search for minimal explanations.
 mod parts;
+mod spoilt;
