@@ -17,4 +17,5 @@ pub mod Pause
 pub mod Reached
 pub mod Walking
 pub mod Powers
+pub mod Decisions
 pub mod Examples

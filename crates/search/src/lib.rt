@@ -1,3 +1,4 @@
 // The search for minimal explanations.
 mod parts;
 mod spoilt;
+mod stepping;
