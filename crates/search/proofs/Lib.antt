@@ -18,4 +18,5 @@ pub mod Reached
 pub mod Walking
 pub mod Powers
 pub mod Decisions
+pub mod Trying
 pub mod Examples
