@@ -8,20 +8,24 @@ use native.Mathlib.Omega.{arith}
 use lib.ListN.{length, take}
 use Rattle.search.specs.declared.stepping.Move.the-variants.{Stands, Tries, Writes}
 use Rattle.search.specs.Scenarios.{Problem}
-use Rattle.search.specs.Continuing.{containsOne, stands, tries, writes, move}
+use Rattle.search.specs.Continuing.{containsOne, stands, tries, writes}
 use Rattle.search.specs.Stepping.{Decided}
 use Rattle.search.proofs.Steps.{move-end, move-tries, move-writes, move-full, move-writes-tells, new-not, new-listed, new-yes}
 
-module _ (k p f : ℕ) (l : List ℕ) where
-  pub decided-end : (e : Bool) → p ≡ 3 ^ k → Decided k p f l e Stands
-  decided-end e h = record { is = λ P a b. move-end P p f l (rw a h) }
+-- A problem with k abducibles in which every scenario is an explanation or none is.
+abbrev uniform : ℕ → Bool → Problem
+uniform k e = record { abducibles = k; explains = λ s. e; rounds = λ s. 0 }
+
+module _ {k p f : ℕ} {l : List ℕ} {e : Bool} where
+  pub decided-end : p ≡ 3 ^ k → Decided k p f l e Stands
+  decided-end h = record { is = λ P a b. move-end P p f l (rw a h) }
 
   module _ (inside : p ≡ 3 ^ k → ⊥) where
     -- No explanation.
-    pub decided-dull : (e : Bool) → e ≡ false → Decided k p f l e Tries
-    decided-dull e h = record { is = λ P a b. move-tries P p f l (rw a inside) (new-not P p f l (b ∙ h)) }
+    pub decided-dull : e ≡ false → Decided k p f l e Tries
+    decided-dull h = record { is = λ P a b. move-tries P p f l (rw a inside) (new-not P p f l (b ∙ h)) }
 
-    module _ (e : Bool) (explains : e ≡ true) where
+    module _ (explains : e ≡ true) where
       -- An explanation containing a listed entry's assumptions.
       pub decided-listed : containsOne k (take f l) p ≡ true → Decided k p f l e Tries
       decided-listed h = record { is = λ P a b. move-tries P p f l (rw a inside) (new-listed P p f l (b ∙ explains) (rw a h)) }
@@ -37,25 +41,17 @@ module _ (k p f : ℕ) (l : List ℕ) where
 
   -- ---- what a decision tells
 
-  module _ (e : Bool) where
-    -- A problem to ask.
-    some : Problem
-    some = record { abducibles = k; explains = λ s. e; rounds = λ s. 0 }
+  pub tries-inside : Decided k p f l e Tries → p ≡ 3 ^ k → ⊥
+  tries-inside d h =
+      let a : stands ≡ tries = sym (move-end (uniform k e) p f l h) ∙ d .is (uniform k e) refl refl in
+      let z : _≡_ {A = ℕ} 0 1 = cc in
+      omega arith
 
-    pub tries-inside : Decided k p f l e Tries → p ≡ 3 ^ k → ⊥
-    unfolding some
-    tries-inside d h =
-        let a : stands ≡ tries = sym (move-end some p f l h) ∙ d .is some refl refl in
-        let z : _≡_ {A = ℕ} 0 1 = cc in
-        omega arith
+  pub writes-inside : Decided k p f l e Writes → p ≡ 3 ^ k → ⊥
+  writes-inside d h =
+      let a : stands ≡ writes = sym (move-end (uniform k e) p f l h) ∙ d .is (uniform k e) refl refl in
+      let z : _≡_ {A = ℕ} 0 1 = cc in
+      omega arith
 
-    pub writes-inside : Decided k p f l e Writes → p ≡ 3 ^ k → ⊥
-    unfolding some
-    writes-inside d h =
-        let a : stands ≡ writes = sym (move-end some p f l h) ∙ d .is some refl refl in
-        let z : _≡_ {A = ℕ} 0 1 = cc in
-        omega arith
-
-    pub writes-room : Decided k p f l e Writes → f < length l
-    unfolding some
-    writes-room d = move-writes-tells some p f l (d .is some refl refl)
+  pub writes-room : Decided k p f l e Writes → f < length l
+  writes-room d = move-writes-tells (uniform k e) p f l (d .is (uniform k e) refl refl)

@@ -19,4 +19,5 @@ pub mod Walking
 pub mod Powers
 pub mod Decisions
 pub mod Trying
+pub mod Batches
 pub mod Examples

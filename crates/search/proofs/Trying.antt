@@ -6,12 +6,11 @@ use mathlib.Core.List.{List}
 use Prim.Native.Nat.{ℕ, _+_, _<_, _≤_}
 use native.Mathlib.Omega.{arith}
 use native.Mathlib.Numerals.{add-one}
-use lib.ListN.{length, getD, set, length-set}
+use lib.ListN.{getD, set, length-set}
 use Rattle.model.specs.Lanes.{inLane}
 use Rattle.search.specs.declared.stepping.Move.{Move as Told}
 use Rattle.search.specs.declared.stepping.Move.the-variants.{Stands, Tries, Writes}
 use Rattle.search.specs.declared.stepping.Progress.{Progress}
-use Rattle.search.specs.Scenarios.{Problem}
 use Rattle.search.specs.Continuing.{work, step, steps}
 use Rattle.search.specs.Stepping.{workOf, Decided, Kept, LaneReady, LaneTried, LanesTried}
 use Rattle.search.proofs.Steps.{step-stands, step-tries, step-writes}
@@ -24,23 +23,23 @@ use Rattle.search.proofs.Decisions.{tries-inside, writes-inside, writes
 abbrev pub next : Progress → ℕ → ℕ → Progress
 next s rounds found = record { position = s .position + 1; found = found; tried = s .tried + 1; rounds = s .rounds + rounds }
 
-module _ (k total : ℕ) (e : Bool) (rounds : ℕ) (s : Progress) (l : List ℕ) (ready : LaneReady k total rounds s l)
-    (told : Told) (decided : Decided k (s .position) (s .found) l e told) where
+module _ {k total : ℕ} {e : Bool} {rounds : ℕ} {s : Progress} {l : List ℕ} {told : Told} (ready : LaneReady k total rounds s l)
+    (decided : Decided k (s .position) (s .found) l e told) where
   is-told : (m : Told) → told ≡ m → Decided k (s .position) (s .found) l e m
   is-told m q = subst (Decided k (s .position) (s .found) l e) q decided
 
   pub lane-stands : told ≡ Stands → LaneTried k total e rounds s l s l
   lane-stands q = let d = is-told Stands q in record {
-    gone = record { kept = ready .kept; size = refl; least = omega arith; most = omega arith; moved = omega arith };
+    advance = record { kept = ready .kept; size = refl; least = omega arith; most = omega arith; moved = omega arith };
     is = λ P a b r. step-stands P (s .position) (s .found) l (s .tried) (s .rounds) (d .is P a b);
   }
 
   pub lane-tries : told ≡ Tries → LaneTried k total e rounds s l (next s rounds (s .found)) l
   lane-tries q =
       let d = is-told Tries q in
-      let inside = tries-inside k (s .position) (s .found) l e d in
+      let inside = tries-inside d in
       record {
-        gone = record {
+        advance = record {
           kept = record { within = omega arith; held = omega arith; few = omega arith; cost = omega arith };
           size = refl;
           least = omega arith;
@@ -56,11 +55,11 @@ module _ (k total : ℕ) (e : Bool) (rounds : ℕ) (s : Progress) (l : List ℕ)
       → LaneTried k total e rounds s l (next s rounds (s .found + 1)) (set l (s .found) (s .position))
   lane-writes q =
       let d = is-told Writes q in
-      let inside = writes-inside k (s .position) (s .found) l e d in
-      let room = writes-room k (s .position) (s .found) l e d in
+      let inside = writes-inside d in
+      let room = writes-room d in
       let n = length-set l (s .found) (s .position) in
       record {
-        gone = record {
+        advance = record {
           kept = record { within = omega arith; held = omega arith; few = omega arith; cost = omega arith };
           size = n;
           least = omega arith;
@@ -74,37 +73,38 @@ module _ (k total : ℕ) (e : Bool) (rounds : ℕ) (s : Progress) (l : List ℕ)
 
 -- ---- up to 64 scenarios
 
-module _ (k total explained : ℕ) (rounds : List ℕ) where
-  pub lanes-none : (s : Progress) (l : List ℕ) → Kept total s l → LanesTried k total explained rounds 0 s l s l
-  lanes-none s l h = record {
-    gone = record { kept = h; size = refl; least = omega arith; most = omega arith; moved = omega arith };
+module _ {k total explained : ℕ} {rounds : List ℕ} where
+  pub lanes-none : {s : Progress} {l : List ℕ} → Kept total s l → LanesTried k total explained rounds 0 s l s l
+  lanes-none {s} {l} h = record {
+    advance = record { kept = h; size = refl; least = omega arith; most = omega arith; moved = omega arith };
     is = λ P i. steps-zero P (workOf s l);
   }
 
-  module _ (lane : ℕ) (s₀ : Progress) (l₀ : List ℕ) (s : Progress) (l : List ℕ) where
+  module _ {lane : ℕ} {s₀ : Progress} {l₀ : List ℕ} {s : Progress} {l : List ℕ} where
     -- One more lane, where each before it was tried.
     pub lanes-next : LanesTried k total explained rounds lane s₀ l₀ s l → s .tried ≡ s₀ .tried + lane → lane < 64
-        → (e : Bool) → e ≡ inLane lane explained
-        → (s′ : Progress) (l′ : List ℕ) → LaneTried k total e (getD rounds lane 0) s l s′ l′
+        → {e : Bool} → e ≡ inLane lane explained
+        → {s′ : Progress} {l′ : List ℕ} → LaneTried k total e (getD rounds lane 0) s l s′ l′
         → LanesTried k total explained rounds (lane + 1) s₀ l₀ s′ l′
-    lanes-next so-far all inside e q s′ l′ one =
-        let g = so-far .gone in
-        let h = one .gone in
+    lanes-next so-far all inside q one =
+        let g = so-far .advance in
+        let h = one .advance in
         let at : s .position ≡ s₀ .position + lane = omega arith in
         record {
-          gone = record { kept = h .kept; size = h .size ∙ g .size; least = omega arith; most = omega arith; moved = omega arith };
+          advance = record { kept = h .kept; size = h .size ∙ g .size; least = omega arith; most = omega arith; moved = omega arith };
           is = λ P i.
               ap (λ (n : ℕ). steps P n (workOf s₀ l₀)) (add-one lane) ∙ steps-last P lane (workOf s₀ l₀) ∙ ap (step P) (so-far .is P i)
-              ∙ one .is P (i .abducibles) (ap (P .explains) at ∙ sym (i .explains lane inside) ∙ sym q) (ap (P .rounds) at ∙ sym (i .costs lane inside));
+              ∙ one .is P (i .abducibles) (ap (P .explains) at ∙ sym (i .explains lane inside) ∙ sym q)
+              (ap (P .rounds) at ∙ sym (i .costs lane inside));
         }
 
     -- Where fewer were tried than there were lanes, the other lanes change nothing.
-    pub lanes-short : (count : ℕ) → LanesTried k total explained rounds lane s₀ l₀ s l → lane ≤ count → s .tried < s₀ .tried + lane
+    pub lanes-short : {count : ℕ} → LanesTried k total explained rounds lane s₀ l₀ s l → lane ≤ count → s .tried < s₀ .tried + lane
         → LanesTried k total explained rounds count s₀ l₀ s l
-    lanes-short count so-far h few =
-        let g = so-far .gone in
+    lanes-short {count} so-far h few =
+        let g = so-far .advance in
         record {
-          gone = record { kept = g .kept; size = g .size; least = g .least; most = omega arith; moved = g .moved };
+          advance = record { kept = g .kept; size = g .size; least = g .least; most = omega arith; moved = g .moved };
           is = λ P i.
               let e = so-far .is P i in
               steps-short P lane count (workOf s₀ l₀) h (rw e few) ∙ e;

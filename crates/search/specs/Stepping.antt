@@ -33,7 +33,7 @@ pub record Kept (total : ℕ) (s : Progress) (list : List ℕ) : Type 0 where
   pub cost : s .rounds ≤ 1026 * s .tried
 
 -- Up to `count` scenarios on: the position goes on by as many as are tried.
-pub record Gone (total count : ℕ) (before : Progress) (list : List ℕ) (after : Progress) (left : List ℕ) : Type 0 where
+pub record Advance (total count : ℕ) (before : Progress) (list : List ℕ) (after : Progress) (left : List ℕ) : Type 0 where
   pub kept : Kept total after left
   pub size : length left ≡ length list
   pub least : before .tried ≤ after .tried
@@ -51,7 +51,7 @@ pub record LaneReady (k total rounds : ℕ) (before : Progress) (list : List ℕ
 -- The step of every problem in which the scenario at the position is as said.
 pub record LaneTried (k total : ℕ) (explains : Bool) (rounds : ℕ) (before : Progress) (list : List ℕ) (after : Progress) (left : List ℕ)
     : Type 0 where
-  pub gone : Gone total 1 before list after left
+  pub advance : Advance total 1 before list after left
   pub is :
       (P : Problem)
       → P .abducibles ≡ k
@@ -77,5 +77,5 @@ pub record InLanes (P : Problem) (k p explained : ℕ) (rounds : List ℕ) : Typ
 -- The steps of every problem whose scenarios are in the lanes.
 pub record LanesTried (k total explained : ℕ) (rounds : List ℕ) (count : ℕ) (before : Progress) (list : List ℕ) (after : Progress) (left : List ℕ)
     : Type 0 where
-  pub gone : Gone total count before list after left
+  pub advance : Advance total count before list after left
   pub is : (P : Problem) → InLanes P k (before .position) explained rounds → steps P count (workOf before list) ≡ workOf after left

@@ -26,7 +26,10 @@ shared-slice-read-if1 : tie.Need-shared-slice-read-if1 Inv-loop μ-loop
 shared-slice-read-if1 c = search needs
 
 returns : tie.Need-returns Inv-loop μ-loop
-returns c = sym (c .before .before .before .loop .inv .1 ∙ below-not _ _ _ (c .before .before .before .before .pre) _ (c .before .before .loop-test .taken) (c .if1 .taken))
+returns c =
+    sym
+    (c .before .before .before .loop .inv .1
+    ∙ below-not _ _ _ (c .before .before .before .before .pre) _ (c .before .before .loop-test .taken) (c .if1 .taken))
 
 add-i : tie.Need-add-i Inv-loop μ-loop
 add-i c = search needs
@@ -35,7 +38,11 @@ loop-less : tie.Need-loop-less Inv-loop μ-loop
 loop-less c = search needs
 
 loop-again : tie.Need-loop-again Inv-loop μ-loop
-loop-again c = (omega arith, c .before .before .before .loop .inv .1 ∙ below-next _ _ _ (c .before .before .before .before .pre) _ (c .before .before .loop-test .taken) (c .if1 .left))
+loop-again c = (
+  omega arith,
+  c .before .before .before .loop .inv .1
+      ∙ below-next _ _ _ (c .before .before .before .before .pre) _ (c .before .before .loop-test .taken) (c .if1 .left),
+)
 
 returns-2 : tie.Need-returns-2 Inv-loop μ-loop
 returns-2 c = sym (c .before .loop .inv .1 ∙ below-end _ _ _ (c .before .before .pre) _ (c .loop-test .left))

@@ -29,7 +29,10 @@ cast-entry : tie.Need-cast-entry Inv-loop μ-loop
 cast-entry c = omega (arith, c .shared-slice-known .given (c .before .before .loop .i))
 
 returns : tie.Need-returns Inv-loop μ-loop
-returns c = sym (c .before .before .before .loop .inv .1 ∙ rising-not _ _ _ (c .before .before .before .before .pre) _ (c .before .before .loop-test .taken) (c .if1 .taken))
+returns c =
+    sym
+    (c .before .before .before .loop .inv .1
+    ∙ rising-not _ _ _ (c .before .before .before .before .pre) _ (c .before .before .loop-test .taken) (c .if1 .taken))
 
 add-least : tie.Need-add-least Inv-loop μ-loop
 add-least c = omega (arith, c .before .shared-slice-known .given (c .before .before .before .loop .i))
@@ -41,7 +44,11 @@ loop-less : tie.Need-loop-less Inv-loop μ-loop
 loop-less c = search needs
 
 loop-again : tie.Need-loop-again Inv-loop μ-loop
-loop-again c = (omega arith, c .before .before .before .loop .inv .1 ∙ rising-next _ _ _ (c .before .before .before .before .pre) _ (c .before .before .loop-test .taken) (c .if1 .left))
+loop-again c = (
+  omega arith,
+  c .before .before .before .loop .inv .1
+      ∙ rising-next _ _ _ (c .before .before .before .before .pre) _ (c .before .before .loop-test .taken) (c .if1 .left),
+)
 
 returns-2 : tie.Need-returns-2 Inv-loop μ-loop
 returns-2 c = sym (c .before .loop .inv .1 ∙ rising-end _ _ _ (c .before .before .pre) _ (c .loop-test .left))

@@ -2,7 +2,6 @@
 -- Assumes nothing.
 use native.Mathlib.Omega.{arith}
 use borrow.Author.Needs.{needs}
-use denote.Ref.{now}
 use Rattle.search.proofs.Trying.{lane-stands, lane-tries, lane-writes}
 use Rattle.search.proofs.stepping.try_lane.Statement.{statement}
 use Rattle.search.proofs.stepping.try_lane.Tie as tie
@@ -21,9 +20,7 @@ enum-told-2 c = search needs
 
 add-t14 : tie.Need-add-t14
 add-t14 c =
-    let start = c .before .before .before .before .before in
-    let a = start .args in
-    let done = lane-tries (a .k) (a .total) (a .explains) (a .rounds) (a .before) (now (a .list)) (start .pre) _ (c .before .before .decide .ensures) (c .enum-told2 .given .1) in
+    let done = lane-tries (c .before .before .before .before .before .pre) (c .before .before .decide .ensures) (c .enum-told2 .given .1) in
     omega arith
 
 add-t15 : tie.Need-add-t15
@@ -40,23 +37,17 @@ mul-list c = search needs
 
 slice-write-list : tie.Need-slice-write-list
 slice-write-list c =
-    let start = c .before .before .before .before .before in
-    let a = start .args in
-    let done = lane-writes (a .k) (a .total) (a .explains) (a .rounds) (a .before) (now (a .list)) (start .pre) _ (c .before .before .decide .ensures) (c .enum-told3 .given .1) in
+    let done = lane-writes (c .before .before .before .before .before .pre) (c .before .before .decide .ensures) (c .enum-told3 .given .1) in
     omega arith
 
 add-t19 : tie.Need-add-t19
 add-t19 c =
-    let start = c .before .before .before .before .before in
-    let a = start .args in
-    let done = lane-writes (a .k) (a .total) (a .explains) (a .rounds) (a .before) (now (a .list)) (start .pre) _ (c .before .before .decide .ensures) (c .enum-told3 .given .1) in
+    let done = lane-writes (c .before .before .before .before .before .pre) (c .before .before .decide .ensures) (c .enum-told3 .given .1) in
     omega arith
 
 add-t20 : tie.Need-add-t20
 add-t20 c =
-    let start = c .before .before .before .before .before in
-    let a = start .args in
-    let done = lane-writes (a .k) (a .total) (a .explains) (a .rounds) (a .before) (now (a .list)) (start .pre) _ (c .before .before .decide .ensures) (c .enum-told3 .given .1) in
+    let done = lane-writes (c .before .before .before .before .before .pre) (c .before .before .decide .ensures) (c .enum-told3 .given .1) in
     omega arith
 
 add-t21 : tie.Need-add-t21
@@ -70,27 +61,27 @@ same-length c = search needs
 
 returns : tie.Need-returns
 returns c =
-    let start = c .before .before .before .before .before in
-    let a = start .args in
-    lane-stands (a .k) (a .total) (a .explains) (a .rounds) (a .before) (now (a .list)) (start .pre) _ (c .before .before .decide .ensures) (c .enum-told .given .1)
+    lane-stands (c .before .before .before .before .before .pre) (c .before .before .decide .ensures) (c .enum-told .given .1)
 
 same-length-2 : tie.Need-same-length-2
 same-length-2 c = search needs
 
 returns-2 : tie.Need-returns-2
 returns-2 c =
-    let start = c .before .before .before .before .before .before .before in
-    let a = start .args in
-    lane-tries (a .k) (a .total) (a .explains) (a .rounds) (a .before) (now (a .list)) (start .pre) _ (c .before .before .before .before .decide .ensures) (c .before .before .enum-told2 .given .1)
+    lane-tries
+    (c .before .before .before .before .before .before .before .pre)
+    (c .before .before .before .before .decide .ensures)
+    (c .before .before .enum-told2 .given .1)
 
 same-length-3 : tie.Need-same-length-3
 same-length-3 c = search needs
 
 returns-3 : tie.Need-returns-3
 returns-3 c =
-    let start = c .before .before .before .before .before .before .before in
-    let a = start .args in
-    lane-writes (a .k) (a .total) (a .explains) (a .rounds) (a .before) (now (a .list)) (start .pre) _ (c .before .before .before .before .decide .ensures) (c .before .before .enum-told3 .given .1)
+    lane-writes
+    (c .before .before .before .before .before .before .before .pre)
+    (c .before .before .before .before .decide .ensures)
+    (c .before .before .enum-told3 .given .1)
 
 pub try-lane-spec : {M : Type 1} → statement M
 try-lane-spec =

@@ -1,6 +1,6 @@
 -- `search::stepping::try_lanes` meets its contract. The loop's invariant: the lanes below `lane` are tried, each of them.
 -- Assumes nothing.
-use mathlib.Core.Path.{_≡_, sym, ap, subst, _∙_}
+use mathlib.Core.Path.{_≡_, subst, _∙_}
 use Prim.Native.Nat.{ℕ, _+_, _-_, _≤_}
 use native.Mathlib.Omega.{arith}
 use borrow.Author.Needs.{needs}
@@ -18,7 +18,7 @@ abbrev μ-loop : tie.MeasureT-loop
 μ-loop list₀ k total explained rounds count reached₀ lane₀ list reached lane = count - lane
 
 loop-holds : tie.Need-loop-holds Inv-loop μ-loop
-loop-holds c = let start = c .before in let a = start .args in (omega arith, omega arith, lanes-none (a .k) (a .total) (a .explained) (now (a .rounds)) (a .before) (now (a .list)) (start .pre .kept))
+loop-holds c = (omega arith, omega arith, lanes-none (c .before .pre .kept))
 
 in-lane-requires : tie.Need-in-lane-requires Inv-loop μ-loop
 in-lane-requires c κs = search needs
@@ -34,20 +34,21 @@ try-lane-requires c κs =
     let start = c .before .before .before .before .before .before in
     let loop = c .before .before .before .before .loop in
     let cost = start .pre .cost (loop .lane) (omega arith) in
-    record { scenarios = start .pre .scenarios; kept = loop .inv .2 .gone .kept; room = omega arith; cost = cost }
+    record { scenarios = start .pre .scenarios; kept = loop .inv .2 .advance .kept; room = omega arith; cost = cost }
 
 same-length : tie.Need-same-length Inv-loop μ-loop
-same-length c = c .before .before .before .before .try-lane .ensures .gone .size ∙ c .before .before .before .before .before .before .before .before .before .loop .inv .2 .gone .size
+same-length c =
+    c .before .before .before .before .try-lane .ensures .advance .size
+    ∙ c .before .before .before .before .before .before .before .before .before .loop .inv .2 .advance .size
 
 returns : tie.Need-returns Inv-loop μ-loop
 returns c =
-    let start = c .before .before .before .before .before .before .before .before .before .before .before in
-    let a = start .args in
     let loop = c .before .before .before .before .before .before .before .before .before .loop in
     let call = c .before .before .before .before .try-lane in
+    let explains = c .before .before .before .before .before .before .before .in-lane .ensures in
     let more = c .before .before .before .before .before .before .before .before .loop-test .taken in
-    let done = lanes-next (a .k) (a .total) (a .explained) (now (a .rounds)) (loop .lane) (a .before) (now (a .list)) (loop .reached) (loop .list) (loop .inv .2) (loop .inv .1) (omega arith) _ (c .before .before .before .before .before .before .before .in-lane .ensures) (call .result) (call .last .0) (call .ensures) in
-    lanes-short (a .k) (a .total) (a .explained) (now (a .rounds)) (loop .lane + 1) (a .before) (now (a .list)) (call .result) (call .last .0) (a .count) done (omega arith) (omega arith)
+    let done = lanes-next (loop .inv .2) (loop .inv .1) (omega arith) explains (call .ensures) in
+    lanes-short done (omega arith) (omega arith)
 
 add-lane : tie.Need-add-lane Inv-loop μ-loop
 add-lane c = search needs
@@ -57,23 +58,23 @@ loop-less c = search needs
 
 loop-again : tie.Need-loop-again Inv-loop μ-loop
 loop-again c =
-    let start = c .before .before .before .before .before .before .before .before .before .before .before in
-    let a = start .args in
     let loop = c .before .before .before .before .before .before .before .before .before .loop in
     let call = c .before .before .before .before .try-lane in
+    let explains = c .before .before .before .before .before .before .before .in-lane .ensures in
     let more = c .before .before .before .before .before .before .before .before .loop-test .taken in
-    let one = call .ensures .gone in
-    (omega arith, omega arith, lanes-next (a .k) (a .total) (a .explained) (now (a .rounds)) (loop .lane) (a .before) (now (a .list)) (loop .reached) (loop .list) (loop .inv .2) (loop .inv .1) (omega arith) _ (c .before .before .before .before .before .before .before .in-lane .ensures) (call .result) (call .last .0) (call .ensures))
+    let one = call .ensures .advance in
+    (omega arith, omega arith, lanes-next (loop .inv .2) (loop .inv .1) (omega arith) explains (call .ensures))
 
 same-length-2 : tie.Need-same-length-2 Inv-loop μ-loop
-same-length-2 c = c .before .loop .inv .2 .gone .size
+same-length-2 c = c .before .loop .inv .2 .advance .size
 
 returns-2 : tie.Need-returns-2 Inv-loop μ-loop
 returns-2 c =
     let a = c .before .before .before .args in
     let loop = c .before .loop in
     let e : loop .lane ≡ a .count = omega arith in
-    subst (λ (n : ℕ). LanesTried (a .k) (a .total) (a .explained) (now (a .rounds)) n (a .before) (now (a .list)) (loop .reached) (loop .list)) e (loop .inv .2)
+    subst (λ (n : ℕ). LanesTried (a .k) (a .total) (a .explained) (now (a .rounds)) n (a .before) (now (a .list)) (loop .reached) (loop .list)) e
+    (loop .inv .2)
 
 pub try-lanes-spec : {M : Type 1} → statement M
 try-lanes-spec =
