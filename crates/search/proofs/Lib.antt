@@ -1,6 +1,6 @@
 -- The laws of the search, and the pause theorem (`Pause`).
 pub mod Tests
-pub mod Parts
+pub mod PartLaws
 pub mod Minimality
 pub mod Minimals
 pub mod Stopping
@@ -16,4 +16,8 @@ pub mod Calling
 pub mod Pause
 pub mod Reached
 pub mod Walking
+pub mod Powers
+pub mod Decisions
+pub mod Trying
+pub mod Batches
 pub mod Examples

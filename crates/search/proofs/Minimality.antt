@@ -10,7 +10,7 @@ use mathlib.Core.Path.{subst}
 use lib.Dec.{T, T-not}
 use Rattle.search.specs.Scenarios.{Problem, scenarios, partOf, someBelow, lesser, minimal}
 use Rattle.search.proofs.Tests.{both, left, right, or-left, or-right, or-elim, either, differs, not-equal}
-use Rattle.search.proofs.Parts.{part-refl, part-trans, part-lt, PartOf, part-tells, part-holds}
+use Rattle.search.proofs.PartLaws.{part-refl, part-trans, part-lt, PartOf, part-tells, part-holds}
 
 -- ---- some number below n
 

@@ -14,7 +14,7 @@ use lib.Seq.{getD-at}
 use Rattle.search.specs.Scenarios.{Problem, scenarios, partOf, someBelow, minimal, minimals}
 use Rattle.search.specs.Continuing.{containsOne, newTo}
 use Rattle.search.proofs.Tests.{both, left, right, either, same-tests, is-true, is-false}
-use Rattle.search.proofs.Parts.{part-trans, part-lt}
+use Rattle.search.proofs.PartLaws.{part-trans, part-lt}
 use Rattle.search.proofs.Minimality.{some-here, some-where, lesser-holds, lesser-tells, minimal-explains, minimal-least, not-minimal, contains-minimal}
 
 contains-append : (k : ℕ) (xs ys : List ℕ) (p : ℕ) → containsOne k (xs ++ ys) p ≡ containsOne k xs p || containsOne k ys p

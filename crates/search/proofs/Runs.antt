@@ -3,7 +3,7 @@
 use mathlib.Core.Path.{_≡_, refl, sym, ap, _∙_}
 use mathlib.Core.List.{List}
 use mathlib.Core.Logic.{_⊎_, inl, inr, ⊎-elim}
-use Prim.Native.Nat.{ℕ, zero, suc, _+_, _≤_}
+use Prim.Native.Nat.{ℕ, zero, suc, _+_, _-_, _<_, _≤_}
 use native.Mathlib.Omega.{arith}
 use native.Mathlib.Nat.{zero-add, add-zero, suc-add, add-assoc}
 use lib.ListN.{set}
@@ -127,3 +127,12 @@ module _ (P : Problem) where
 
       moved : x .position ≡ s .position + w → Claim
       moved e = ⊎-elim (λ h. still (h .1)) (λ (h : Onward x (step P x)). inr (omega arith)) (step-either P x)
+
+  -- Steps that try fewer scenarios than they may have come to stand still: any further steps leave them as they are.
+  pub steps-short : (a w : ℕ) (s : Work) → a ≤ w → steps P a s .tried < s .tried + a → steps P w s ≡ steps P a s
+  steps-short a w s h few =
+      let g = steps-gone a s in
+      let split : w ≡ a + (w - a) = omega arith in
+      ap (λ (n : ℕ). steps P n s) split ∙ steps-add a (w - a) s
+      ∙ ⊎-elim (λ (e : step P (steps P a s) ≡ steps P a s). steps-still (w - a) (steps P a s) e)
+      (λ (e : steps P a s .position ≡ s .position + a). absurd (omega arith)) (steps-either a s)

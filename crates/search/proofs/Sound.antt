@@ -4,15 +4,16 @@ use mathlib.Core.Path.{_≡_, refl}
 use mathlib.Core.Bool.{Bool, true, false, not, _||_}
 use mathlib.Core.List.{List, [], _∷_, _++_}
 use mathlib.Core.Logic.{inl, inr}
-use Prim.Native.Nat.{ℕ, zero, suc, _+_, _≤_}
+use Prim.Native.Nat.{ℕ, zero, suc, _+_, _-_, _≤_}
 use native.Mathlib.Omega.{arith}
 use borrow.Author.Tests.{ltb-false, le-ltb, not-false}
-use lib.Dec.{T, leb, ltb, le→leb, ltb→lt, lt→ltb}
+use lib.Dec.{T, leb, ltb, leb→le, le→leb, ltb→lt, lt→ltb}
 use lib.ListN.{length, take}
+use lib.Seq.{length-take-le}
 use Rattle.search.specs.Scenarios.{Problem, scenarios, minimal, minimals, stop}
 use Rattle.search.specs.Continuing.{Record}
-use Rattle.search.specs.Spoilt.{rising, allBelow, spoilt}
-use Rattle.search.proofs.Tests.{both, left, right, either, is-true}
+use Rattle.search.specs.Spoilt.{rising, allBelow, spoiltBy, spoilt}
+use Rattle.search.proofs.Tests.{both, left, right, either, is-true, passes}
 use Rattle.search.proofs.Minimals.{minimals-zero, minimals-yes, minimals-no}
 use Rattle.search.proofs.Stopping.{stop-le, stop-count}
 use Rattle.search.proofs.Canonical.{recordAt, listAt, listAt-found, listAt-length}
@@ -31,7 +32,7 @@ neither true b e = absurd (let z : _≡_ {A = ℕ} 0 1 = cc in omega arith)
 neither false b e = (refl, e)
 
 pub unspoilt-tells : (P : Problem) (r : Record) (list : List ℕ) → spoilt P r list ≡ false → Sound P r list
-unfolding spoilt
+unfolding spoiltBy
 unspoilt-tells P r list e =
     let a = neither (ltb (scenarios P) (r .position)) _ e in
     let b = neither (ltb (length list) (r .found)) _ (a .1) in
@@ -44,9 +45,35 @@ unspoilt-tells P r list e =
     }
 
 pub sound-unspoilt : (P : Problem) (r : Record) (list : List ℕ) → Sound P r list → spoilt P r list ≡ false
-unfolding spoilt
+unfolding spoiltBy
 sound-unspoilt P r list s =
     rw (le-ltb (scenarios P) (r .position) (s .within), le-ltb (length list) (r .found) (s .held), s .rises, s .below)
+
+-- Numbers that rise strictly from `least` on and are below p are at most p - least many.
+rising-few : (least p : ℕ) (xs : List ℕ) → T (rising least xs) → T (allBelow p xs) → length xs ≤ p - least
+unfolding rising allBelow
+rising-few least p [] h g = omega arith
+rising-few least p (x ∷ xs) h g =
+    let a = leb→le least x (left (leb least x) _ h) in
+    let b = ltb→lt x p (left (ltb x p) _ g) in
+    let ih = rising-few (x + 1) p xs (right (leb least x) _ h) (right (ltb x p) _ g) in
+    omega arith
+
+-- The bounds that a passed test 14 gives.
+pub record Bounded (P : Problem) (r : Record) (list : List ℕ) : Type 0 where
+  pub within : r .position ≤ scenarios P
+  pub held : r .found ≤ length list
+  pub few : r .found ≤ r .position
+
+pub sound-bounded : (P : Problem) (r : Record) (list : List ℕ) → Sound P r list → Bounded P r list
+sound-bounded P r list s =
+    let xs = take (r .found) list in
+    let n = length-take-le (r .found) list (s .held) in
+    let few = rising-few 0 (r .position) xs (passes (rising 0 xs) (s .rises)) (passes (allBelow (r .position) xs) (s .below)) in
+    record { within = s .within; held = s .held; few = omega arith }
+
+pub unspoilt-bounded : (P : Problem) (r : Record) (list : List ℕ) → spoilt P r list ≡ false → Bounded P r list
+unspoilt-bounded P r list e = sound-bounded P r list (unspoilt-tells P r list e)
 
 -- ---- the minimal explanations below p rise, and are below p
 

@@ -11,9 +11,9 @@ use borrow.Author.Tests.{eq-eqb, ne-eqb, lt-ltb, le-ltb, le-leb, lt-leb}
 use lib.Dec.{eqb, ltb}
 use lib.ListN.{length, getD, take, drop, drop-of-length-le}
 use lib.Seq.{drop-cons, getD-take, length-take-le}
-use Rattle.search.specs.Scenarios.{Problem, scenarios, partDigit, partOf}
+use Rattle.search.specs.Scenarios.{partDigit, partOf}
 use Rattle.search.specs.Continuing.{Record, containsOne}
-use Rattle.search.specs.Spoilt.{rising, allBelow, spoilt}
+use Rattle.search.specs.Spoilt.{rising, allBelow, spoiltBy}
 
 -- ---- the digits
 
@@ -97,24 +97,21 @@ or-third : (a b c : Bool) → a || (b || (true || c)) ≡ true
 or-third true b c = refl
 or-third false b c = or-true b
 
-or-fourth : (a b c : Bool) → a || (b || (c || true)) ≡ true
-or-fourth true b c = refl
-or-fourth false true c = refl
-or-fourth false false c = or-true c
+module _ (total : ℕ) (r : Record) (list : List ℕ) where
+  pub spoilt-position : total < r .position → spoiltBy total r list ≡ true
+  unfolding spoiltBy
+  spoilt-position h = rw (lt-ltb total (r .position) h)
 
-module _ (P : Problem) (r : Record) (list : List ℕ) where
-  pub spoilt-position : scenarios P < r .position → spoilt P r list ≡ true
-  unfolding spoilt
-  spoilt-position h = rw (lt-ltb (scenarios P) (r .position) h)
+  pub spoilt-found : length list < r .found → spoiltBy total r list ≡ true
+  unfolding spoiltBy
+  spoilt-found h = rw (lt-ltb (length list) (r .found) h) (or-true (ltb total (r .position)))
 
-  pub spoilt-found : length list < r .found → spoilt P r list ≡ true
-  unfolding spoilt
-  spoilt-found h = rw (lt-ltb (length list) (r .found) h) (or-true (ltb (scenarios P) (r .position)))
+  pub spoilt-rising : rising 0 (take (r .found) list) ≡ false → spoiltBy total r list ≡ true
+  unfolding spoiltBy
+  spoilt-rising e = rw e (or-third (ltb total (r .position)) (ltb (length list) (r .found)) (not (allBelow (r .position) (take (r .found) list))))
 
-  pub spoilt-rising : rising 0 (take (r .found) list) ≡ false → spoilt P r list ≡ true
-  unfolding spoilt
-  spoilt-rising e = rw e (or-third (ltb (scenarios P) (r .position)) (ltb (length list) (r .found)) (not (allBelow (r .position) (take (r .found) list))))
-
-  pub spoilt-below : allBelow (r .position) (take (r .found) list) ≡ false → spoilt P r list ≡ true
-  unfolding spoilt
-  spoilt-below e = rw e (or-fourth (ltb (scenarios P) (r .position)) (ltb (length list) (r .found)) (not (rising 0 (take (r .found) list))))
+  -- Where the first three pass, the fourth decides.
+  pub spoilt-below : r .position ≤ total → r .found ≤ length list → rising 0 (take (r .found) list) ≡ true
+      → spoiltBy total r list ≡ not (allBelow (r .position) (take (r .found) list))
+  unfolding spoiltBy
+  spoilt-below h g e = rw (le-ltb total (r .position) h, le-ltb (length list) (r .found) g, e)

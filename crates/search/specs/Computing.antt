@@ -1,7 +1,7 @@
 -- What has to unfold for a search to be computed: a theorem says `unfolding computing`.
 use Rattle.search.specs.Scenarios.{partDigit, partOf, someBelow, lesser, minimal, minimals, stop, sumBelow}
 use Rattle.search.specs.Continuing.{containsOne, newTo, move, step, steps, stateOf, continue, stopFrom}
-use Rattle.search.specs.Spoilt.{rising, allBelow, spoilt}
+use Rattle.search.specs.Spoilt.{rising, allBelow, spoiltBy}
 use Rattle.search.specs.Calls.{answer, calls, triedBy, roundsBy, allowances, unrefused, reports}
 
 -- Minimality and the stopping point,
@@ -16,5 +16,5 @@ continuing = tt
 
 -- and a list of calls.
 unfoldable pub computing : Unit {0}
-unfolding minimality continuing rising allBelow spoilt answer calls triedBy roundsBy allowances unrefused reports
+unfolding minimality continuing rising allBelow spoiltBy answer calls triedBy roundsBy allowances unrefused reports
 computing = tt

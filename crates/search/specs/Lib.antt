@@ -4,4 +4,5 @@ pub mod Continuing
 pub mod Spoilt
 pub mod Calls
 pub mod Demand
+pub mod Stepping
 pub mod Computing

@@ -17,10 +17,14 @@ unfoldable pub allBelow : ℕ → List ℕ → Bool
 allBelow position [] = true
 allBelow position (entry ∷ more) = ltb entry position && allBelow position more
 
--- 14: "position above 3^k, found above list length, or the first found entries not strictly rising or not all below position".
-unfoldable pub spoilt : Problem → Record → List ℕ → Bool
-spoilt P r list =
-    ltb (scenarios P) (r .position)
+-- 14: "position above 3^k, found above list length, or the first found entries not strictly rising or not all below position", where
+-- 3^k is `total`.
+unfoldable pub spoiltBy : ℕ → Record → List ℕ → Bool
+spoiltBy total r list =
+    ltb total (r .position)
     || (ltb (length list) (r .found)
     || (not (rising 0 (take (r .found) list))
     || not (allBelow (r .position) (take (r .found) list))))
+
+abbrev pub spoilt : Problem → Record → List ℕ → Bool
+spoilt P = spoiltBy (scenarios P)

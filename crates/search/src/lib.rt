@@ -1,1 +1,4 @@
-// The search for minimal explanations: its definitions stand in specs/, its laws in proofs/. No function is here yet.
+// The search for minimal explanations.
+mod parts;
+mod spoilt;
+mod stepping;
