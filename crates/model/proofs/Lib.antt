@@ -31,3 +31,4 @@ pub mod ChangeLaws
 pub mod RoundLaws
 pub mod SettlingLaws
 pub mod VerdictLaws
+pub mod JudgingLaws

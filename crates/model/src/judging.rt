@@ -9,10 +9,10 @@ ghost use Rattle.dual.specs.Answers.{filled};
 ghost use Rattle.model.specs.declared.Judged.{Judged};
 ghost use Rattle.model.specs.Model.{rounds, modelBytes, explains};
 ghost use Rattle.model.specs.VerdictLanes.{Prepared};
+use crate::Judged;
 use crate::settling::settle;
 use crate::values::write_values;
 use crate::verdicts::explained_lanes;
-use crate::Judged;
 use papers::Contents;
 
 // How many scenarios there are.

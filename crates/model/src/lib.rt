@@ -53,5 +53,13 @@ pub fn judge(file: &[u8], sheet: &[u8], scenario: u32, dual: &mut [u8], model: &
         return Judged::NoScenario;
     }
     let end = 3 + 2 * literals;
-    judge_accepted(file, contents, &places, dual, &sheet[3..end], scenario, model)
+    judge_accepted(
+        file,
+        contents,
+        &places,
+        dual,
+        &sheet[3..end],
+        scenario,
+        model,
+    )
 }

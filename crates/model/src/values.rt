@@ -17,12 +17,7 @@ fn value_byte(held: bool, failed: bool) -> u8
 }
 
 // The bytes of the first lane, into the start of a lent buffer.
-pub(crate) fn write_values(
-    model: &mut [u8],
-    trues: &[u64; 513],
-    falses: &[u64; 513],
-    count: usize,
-)
+pub(crate) fn write_values(model: &mut [u8], trues: &[u64; 513], falses: &[u64; 513], count: usize)
     requires { ⌜ (count ≤ 513) × (count ≤ length (now model)) ⌝ }
     ensures { λ _. ⌜ now (model .exit) ≡ filled (valueBytes (lane count 0 (now (trues .entry))) (lane count 0 (now (falses .entry)))) (now (model .entry)) ⌝ }
 {

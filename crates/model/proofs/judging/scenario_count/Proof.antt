@@ -18,7 +18,10 @@ loop-holds : tie.Need-loop-holds Inv-loop μ-loop
 loop-holds c = (omega arith, refl)
 
 mul-total : tie.Need-mul-total Inv-loop μ-loop
-mul-total c = let i = c .before .loop .i in let h : 3 ^ i ≤ 3 ^ 16 = pow-le-pow-right {n = 3} (omega arith) {i = i} {j = 16} (omega arith) in omega arith
+mul-total c =
+    let i = c .before .loop .i in
+    let h : 3 ^ i ≤ 3 ^ 16 = pow-le-pow-right {n = 3} (omega arith) {i = i} {j = 16} (omega arith) in
+    omega arith
 
 add-i : tie.Need-add-i Inv-loop μ-loop
 add-i c = search needs
@@ -27,7 +30,11 @@ loop-less : tie.Need-loop-less Inv-loop μ-loop
 loop-less c = search needs
 
 loop-again : tie.Need-loop-again Inv-loop μ-loop
-loop-again c = let i = c .before .loop .i in let p = pow-suc 3 i in let e : i + 1 ≡ suc i = omega arith in (omega arith, omega (arith, ap (λ (x : ℕ). 3 ^ x) e))
+loop-again c =
+    let i = c .before .loop .i in
+    let p = pow-suc 3 i in
+    let e : i + 1 ≡ suc i = omega arith in
+    (omega arith, omega (arith, ap (λ (x : ℕ). 3 ^ x) e))
 
 returns : tie.Need-returns Inv-loop μ-loop
 returns c = let l = c .before .loop in let e : l .i ≡ c .before .before .args .abducibles = omega arith in l .inv .1 ∙ ap (λ (x : ℕ). 3 ^ x) e

@@ -44,13 +44,20 @@ loop-less : tie.Need-loop-less Inv-loop μ-loop
 loop-less c = search needs
 
 loop-again : tie.Need-loop-again Inv-loop μ-loop
-loop-again c = let a = c .before .before .before .before .before .before .args in let l = c .before .before .before .before .loop in (omega arith, valued-more (now (a .trues)) (now (a .falses)) (now (a .model)) (l .o) (l .model) (c .value-byte .result) (omega arith) (l .inv .1) (c .value-byte .ensures))
+loop-again c =
+    let a = c .before .before .before .before .before .before .args in
+    let l = c .before .before .before .before .loop in
+    (omega arith, valued-more (now (a .trues)) (now (a .falses)) (now (a .model)) (l .o) (l .model) (c .value-byte .result) (omega arith) (l .inv .1) (c .value-byte .ensures))
 
 same-length : tie.Need-same-length Inv-loop μ-loop
 same-length c = c .before .loop .inv .1 .long
 
 returns : tie.Need-returns Inv-loop μ-loop
-returns c = let a = c .before .before .before .args in let l = c .before .loop in let e : l .o ≡ a .count = omega arith in valued-all (now (a .trues)) (now (a .falses)) (now (a .model)) (a .count) (l .model) (c .before .before .before .pre .1) (subst (λ x. Valued (now (a .trues)) (now (a .falses)) (now (a .model)) x (l .model)) e (l .inv .1))
+returns c =
+    let a = c .before .before .before .args in
+    let l = c .before .loop in
+    let e : l .o ≡ a .count = omega arith in
+    valued-all (now (a .trues)) (now (a .falses)) (now (a .model)) (a .count) (l .model) (c .before .before .before .pre .1) (subst (λ x. Valued (now (a .trues)) (now (a .falses)) (now (a .model)) x (l .model)) e (l .inv .1))
 
 pub write-values-spec : {M : Type 1} → statement M
 write-values-spec =

@@ -29,7 +29,9 @@ element-copy-out-result-2 : tie.Need-element-copy-out-result-2
 element-copy-out-result-2 c = search needs
 
 returns : tie.Need-returns
-returns c = let a = c .before .before .before .before .before .args in explained-word (a .atoms) (numbers (now (a .query))) (now (a .trues)) (now (a .falses)) (c .before .before .body-word .result) (c .before .before .before .lent-known .ensures) (c .before .before .body-word .ensures)
+returns c =
+    let a = c .before .before .before .before .before .args in
+    explained-word (a .atoms) (numbers (now (a .query))) (now (a .trues)) (now (a .falses)) (c .before .before .body-word .result) (c .before .before .before .lent-known .ensures) (c .before .before .body-word .ensures)
 
 pub explained-lanes-spec : {M : Type 1} → statement M
 explained-lanes-spec =
