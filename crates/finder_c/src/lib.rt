@@ -4,8 +4,10 @@ ghost use mathlib.Core.Path.{_≡_};
 ghost use lib.ListN.{length};
 ghost use Rattle.papers.specs.Reading.{readFile, readPapers};
 ghost use Rattle.dual.specs.Answers.{dualAnswer, dualAfter};
-ghost use Rattle.finder_c.specs.Words.{paperNumber, refusalWords, restWords, dualWords};
+ghost use Rattle.model.specs.Judging.{judgeAnswer, dualJudged, modelJudged};
+ghost use Rattle.finder_c.specs.Words.{flagNumber, paperNumber, refusalWords, restWords, dualWords, judgedWords};
 use dual::DualWritten;
+use model::Judged;
 use papers::Paper;
 use papers::PapersRead;
 use papers::Refusal;
@@ -57,4 +59,37 @@ pub extern "C" fn finder_write_dual(file: &[u8], dual: &mut [u8], out: &mut [u64
 {
     let written = dual::write_dual(file, dual);
     *out = dual_words(written);
+}
+
+fn flag_number(flag: bool) -> u64
+    ensures { λ r. ⌜ r ≡ flagNumber flag ⌝ }
+{
+    if flag { 1 } else { 0 }
+}
+
+fn judged_words(judged: Judged) -> [u64; 8]
+    ensures { λ r. ⌜ r ≡ judgedWords judged ⌝ }
+{
+    match judged {
+        Judged::Verdict { explains, rounds } => [0, 0, 0, flag_number(explains), rounds, 0, 0, 0],
+        Judged::ShortDual => [11, 0, 0, 0, 0, 0, 0, 0],
+        Judged::ShortModel => [12, 0, 0, 0, 0, 0, 0, 0],
+        Judged::NoScenario => [13, 0, 0, 0, 0, 0, 0, 0],
+        Judged::Refused(refusal) => refusal_words(refusal, 0),
+    }
+}
+
+#[no_mangle]
+pub extern "C" fn finder_judge(
+    file: &[u8],
+    sheet: &[u8],
+    scenario: u32,
+    dual: &mut [u8],
+    model: &mut [u8],
+    out: &mut [u64; 8],
+)
+    ensures { λ _. ⌜ (now (out .exit) ≡ judgedWords (judgeAnswer (readPapers (now (file .entry)) (now (sheet .entry))) scenario (length (now (dual .entry))) (length (now (model .entry))))) × ((now (dual .exit) ≡ dualJudged (readPapers (now (file .entry)) (now (sheet .entry))) scenario (now (dual .entry)) (now (model .entry))) × (now (model .exit) ≡ modelJudged (readPapers (now (file .entry)) (now (sheet .entry))) scenario (now (dual .entry)) (now (model .entry)))) ⌝ }
+{
+    let judged = model::judge(file, sheet, scenario, dual, model);
+    *out = judged_words(judged);
 }
