@@ -11,8 +11,8 @@ use Rattle.papers.specs.Outcome.{Outcome, accepted, refused}
 use Rattle.papers.specs.Answers.{restFrom}
 use Rattle.dual.specs.declared.DualWritten.{DualWritten}
 use Rattle.dual.specs.declared.DualWritten.the-variants.{Length, Short, Refused}
-use Rattle.model.specs.declared.Judged.{Judged}
-use Rattle.model.specs.declared.Judged.the-variants as judging
+use Rattle.judging.specs.declared.Judged.{Judged}
+use Rattle.judging.specs.declared.Judged.the-variants as judging
 
 abbrev pub paperNumber : Paper → ℕ
 paperNumber File = 0

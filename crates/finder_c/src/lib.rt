@@ -4,10 +4,10 @@ ghost use mathlib.Core.Path.{_≡_};
 ghost use lib.ListN.{length};
 ghost use Rattle.papers.specs.Reading.{readFile, readPapers};
 ghost use Rattle.dual.specs.Answers.{dualAnswer, dualAfter};
-ghost use Rattle.model.specs.Judging.{judgeAnswer, dualJudged, modelJudged};
+ghost use Rattle.judging.specs.Judging.{judgeAnswer, dualJudged, modelJudged};
 ghost use Rattle.finder_c.specs.Words.{flagNumber, paperNumber, refusalWords, restWords, dualWords, judgedWords};
 use dual::DualWritten;
-use model::Judged;
+use judging::Judged;
 use papers::Paper;
 use papers::PapersRead;
 use papers::Refusal;
@@ -90,6 +90,6 @@ pub extern "C" fn finder_judge(
 )
     ensures { λ _. ⌜ (now (out .exit) ≡ judgedWords (judgeAnswer (readPapers (now (file .entry)) (now (sheet .entry))) scenario (length (now (dual .entry))) (length (now (model .entry))))) × ((now (dual .exit) ≡ dualJudged (readPapers (now (file .entry)) (now (sheet .entry))) scenario (now (dual .entry)) (now (model .entry))) × (now (model .exit) ≡ modelJudged (readPapers (now (file .entry)) (now (sheet .entry))) scenario (now (dual .entry)) (now (model .entry)))) ⌝ }
 {
-    let judged = model::judge(file, sheet, scenario, dual, model);
+    let judged = judging::judge(file, sheet, scenario, dual, model);
     *out = judged_words(judged);
 }

@@ -4,7 +4,7 @@ use mathlib.Core.Bool.{Bool}
 use mathlib.Core.List.{List}
 use Prim.Native.Nat.{ℕ, _+_, _*_, _^_, _<_, _≤_}
 use lib.ListN.{length, getD}
-use Rattle.model.specs.Lanes.{inLane}
+use Rattle.lanes.specs.Lanes.{inLane}
 use Rattle.search.specs.declared.stepping.Move.{Move as Told}
 use Rattle.search.specs.declared.stepping.Move.the-variants.{Stands, Tries, Writes}
 use Rattle.search.specs.declared.stepping.Progress.{Progress}

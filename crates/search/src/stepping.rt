@@ -2,7 +2,7 @@
 ghost use mathlib.Core.Path.{_≡_};
 ghost use Prim.Native.Nat.{_≤_, _<_, _^_};
 ghost use lib.ListN.{length};
-ghost use Rattle.model.specs.Lanes.{inLane};
+ghost use Rattle.lanes.specs.Lanes.{inLane};
 ghost use Rattle.search.specs.Stepping.{Decided, LaneReady, LaneTried, LanesReady, LanesTried};
 use crate::parts::contains_one;
 
