@@ -34,12 +34,12 @@ fn refusal_words(refusal: Refusal, rest: usize) -> [u64; 8]
 pub extern "C" fn finder_rest<'a>(file: &'a [u8], sheet: &'a [u8], out: &mut [u64; 8])
     ensures { λ _. ⌜ now (out .exit) ≡ restWords (readPapers (now (file .entry)) (now (sheet .entry))) (now (file .entry)) (now (sheet .entry)) ⌝ }
 {
-    let read = papers::read_papers(file, sheet);
+    let read = reading::read_papers(file, sheet);
     let PapersRead::Refused(refusal) = read else {
         *out = [0; 8];
         return;
     };
-    let rest = papers::rest_of_paper(file, sheet).len();
+    let rest = reading::rest_of_paper(file, sheet).len();
     *out = refusal_words(refusal, rest);
 }
 

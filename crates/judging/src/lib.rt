@@ -24,7 +24,7 @@ pub enum Judged {
 pub fn judge(file: &[u8], sheet: &[u8], scenario: u32, dual: &mut [u8], model: &mut [u8]) -> Judged
     ensures { λ r. ⌜ (r ≡ judgeAnswer (readPapers (now (file .entry)) (now (sheet .entry))) scenario (length (now (dual .entry))) (length (now (model .entry)))) × ((now (dual .exit) ≡ dualJudged (readPapers (now (file .entry)) (now (sheet .entry))) scenario (now (dual .entry)) (now (model .entry))) × (now (model .exit) ≡ modelJudged (readPapers (now (file .entry)) (now (sheet .entry))) scenario (now (dual .entry)) (now (model .entry)))) ⌝ }
 {
-    let read = papers::read_papers(file, sheet);
+    let read = reading::read_papers(file, sheet);
     let PapersRead::Accepted(contents, literals) = read else {
         let PapersRead::Refused(refusal) = read else {
             return Judged::NoScenario;
@@ -33,7 +33,7 @@ pub fn judge(file: &[u8], sheet: &[u8], scenario: u32, dual: &mut [u8], model: &
     };
     let room = 2 * (contents.atoms as usize) < model.len();
     let listed = scenario < scenario_count(contents.abducibles);
-    let places = papers::folds::fold_places(file, contents);
+    let places = folds::fold_places(file, contents);
     let written = dual::write_accepted(file, contents, &places, dual, room & listed);
     let DualWritten::Length(_) = written else {
         return Judged::ShortDual;

@@ -5,8 +5,8 @@ ghost use Rattle.papers.specs.declared.FileRead.{FileRead};
 ghost use Rattle.papers.specs.Reading.{readFile, programIn};
 ghost use Rattle.papers.specs.Answers.{fileAnswer};
 ghost use Rattle.lanes.specs.Lanes.{LaneSet, DigitLanes, AbducibleLanes};
+use fields::field::number_at;
 use papers::Contents;
-use papers::field::number_at;
 
 // How many scenarios there are.
 pub fn scenario_count(abducibles: usize) -> u32

@@ -11,7 +11,7 @@ ghost use Rattle.dual.specs.Table.{foldsOf};
 ghost use Rattle.lanes.specs.FalseWords.{Below, listedIn, FoldStands, literalIn, FieldStands, DualStarts, EntriesAt, FoldsAt};
 ghost use Rattle.lanes.specs.FalseWords.{SomeWord, FoldsWord, EntryWord, FalseWords, DroppedTo};
 use crate::words::word_of;
-use papers::field::number_at;
+use fields::field::number_at;
 
 // The lanes in which one of a fold's listed literals holds.
 fn fold_word(content: &[u8], truth: &[u64; 513], falses: &[u64; 513]) -> u64

@@ -21,8 +21,8 @@ fn close_rule(
     requires { ⌜ Walked (now file) contents (now places) × (fold < length (allRules (programIn (now file)))) ⌝ }
     ensures { λ r. ⌜ Raised (ruleAt (programIn (now (file .entry))) fold) (now (falses .entry)) (now (truth .entry)) (now (truth .exit)) r ⌝ }
 {
-    let head = papers::folds::head_of(file, contents, places, fold);
-    let body = papers::folds::body_of(file, contents, places, fold);
+    let head = folds::head_of(file, contents, places, fold);
+    let body = folds::body_of(file, contents, places, fold);
     let word = body_word(body, truth, falses);
     let old = truth[head];
     let new = old | word;

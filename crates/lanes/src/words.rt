@@ -3,7 +3,7 @@ ghost use mathlib.Core.Path.{_≡_};
 ghost use Prim.Native.Nat.{_<_};
 ghost use Rattle.papers.specs.Field.{numbers};
 ghost use Rattle.lanes.specs.Words.{wordOf, Literals, BodyWord, Laned};
-use papers::field::number_at;
+use fields::field::number_at;
 
 // The lanes in which a literal holds.
 pub(crate) fn word_of(l: usize, set: &[u64; 513], negated: &[u64; 513]) -> u64
