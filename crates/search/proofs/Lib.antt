@@ -21,4 +21,5 @@ pub mod Trying
 pub mod Batches
 pub mod JudgedLanes
 pub mod CallLaws
+pub mod AnswerLaws
 pub mod Examples

@@ -7,7 +7,6 @@ use lib.ListN.{length, take, set}
 use Rattle.search.specs.declared.State.{State}
 use Rattle.search.specs.declared.State.the-variants.{Ended, Full, Going}
 use Rattle.search.specs.Scenarios.{Problem, scenarios, partOf}
-
 -- The record of a search, as the code declares it: its next scenario, and how many of the list's entries are found ones.
 pub use Rattle.search.specs.declared.Record.{Record}
 

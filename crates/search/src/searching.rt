@@ -51,7 +51,15 @@ fn try_batch(
     let verdicts = judge_lanes(file, contents, places, dual, query, before.position as u64);
     let explained = verdicts.explained;
     let rounds = verdicts.rounds;
-    try_lanes(list, contents.abducibles, total, explained, &rounds, count as usize, before)
+    try_lanes(
+        list,
+        contents.abducibles,
+        total,
+        explained,
+        &rounds,
+        count as usize,
+        before,
+    )
 }
 
 // All that a call tries.
@@ -73,7 +81,17 @@ fn try_all(
     let mut count = batch_size(0, allowance, reached.position, total);
     while count > 0 {
         let aim = reached.tried + count;
-        reached = try_batch(file, contents, places, dual, query, list, total, count, reached);
+        reached = try_batch(
+            file,
+            contents,
+            places,
+            dual,
+            query,
+            list,
+            total,
+            count,
+            reached,
+        );
         if reached.tried < aim {
             return reached;
         }
@@ -116,7 +134,17 @@ pub(crate) fn search_accepted(
         tried: 0,
         rounds: 0,
     };
-    let reached = try_all(file, contents, places, dual, query, list, total, allowance, before);
+    let reached = try_all(
+        file,
+        contents,
+        places,
+        dual,
+        query,
+        list,
+        total,
+        allowance,
+        before,
+    );
     let state = state_of(total, allowance, reached.position, reached.tried);
     Report {
         new: Record {

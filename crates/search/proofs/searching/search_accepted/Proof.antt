@@ -13,13 +13,15 @@ try-all-requires : tie.Need-try-all-requires
 try-all-requires c κs =
     let a = c .before .before .before .before .before .args in
     let sound = c .before .before .before .before .before .pre in
-    let P = problemIn (now (a .file)) (now (a .query)) in
-    (record {
-      prepared = sound .prepared;
-      scenarios = sound .scenarios;
-      kept = unspoilt-kept P (sound .scenarios) (a .from) (now (a .list)) (sound .unspoilt);
-      room = omega arith;
-    }, refl)
+    let P = problemIn (now (a .file)) (now (a .query)) in (
+      record {
+        prepared = sound .prepared;
+        scenarios = sound .scenarios;
+        kept = unspoilt-kept P (sound .scenarios) (a .from) (now (a .list)) (sound .unspoilt);
+        room = omega arith;
+      },
+      refl,
+    )
 
 state-of-requires : tie.Need-state-of-requires
 state-of-requires c κs = search needs
