@@ -16,8 +16,10 @@ pub mod Calling
 pub mod Pause
 pub mod Reached
 pub mod Walking
-pub mod Powers
 pub mod Decisions
 pub mod Trying
 pub mod Batches
+pub mod JudgedLanes
+pub mod CallLaws
+pub mod AnswerLaws
 pub mod Examples
