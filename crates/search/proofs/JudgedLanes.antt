@@ -12,7 +12,7 @@ use Rattle.papers.specs.Reading.{readFile, programIn}
 use Rattle.papers.specs.Answers.{fileAnswer}
 use Rattle.papers.proofs.FoldAnswers.{told}
 use Rattle.model.specs.Model.{rounds}
-use Rattle.model.specs.VerdictLanes.{VerdictLanes}
+use Rattle.lanes.specs.VerdictLanes.{VerdictLanes}
 use Rattle.model.proofs.Rounds.{rounds-le}
 use Rattle.search.specs.Stepping.{InLanes}
 use Rattle.search.specs.Searching.{problemOf}

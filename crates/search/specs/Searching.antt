@@ -12,7 +12,7 @@ use Rattle.papers.specs.Outcome.{Outcome, accepted, refused}
 use Rattle.papers.specs.Reading.{programIn, Papers}
 use Rattle.dual.specs.Answers.{dualOf, filled}
 use Rattle.model.specs.Model.{rounds, explains}
-use Rattle.model.specs.VerdictLanes.{Prepared}
+use Rattle.lanes.specs.VerdictLanes.{Prepared}
 use Rattle.search.specs.declared.Report.{Report as Told}
 use Rattle.search.specs.declared.Continued.{Continued}
 use Rattle.search.specs.declared.Continued.the-variants.{Reported, ShortDual, SpoiltSearch, Refused}

@@ -10,7 +10,7 @@ ghost use Rattle.papers.specs.Reading.{readPapers};
 ghost use Rattle.search.specs.Continuing.{fresh};
 ghost use Rattle.search.specs.Searching.{continueAnswer, dualContinued, listContinued};
 use dual::DualWritten;
-use model::judging::scenario_count;
+use lanes::digits::scenario_count;
 use papers::PapersRead;
 use papers::Refusal;
 use searching::search_accepted;
@@ -64,7 +64,7 @@ pub fn continue_search(
 ) -> Continued
     ensures { λ r. ⌜ (r ≡ continueAnswer (readPapers (now (file .entry)) (now (sheet .entry))) allowance (length (now (dual .entry))) from (now (list .entry))) × ((now (dual .exit) ≡ dualContinued (readPapers (now (file .entry)) (now (sheet .entry))) allowance (now (dual .entry)) from (now (list .entry))) × (now (list .exit) ≡ listContinued (readPapers (now (file .entry)) (now (sheet .entry))) allowance (length (now (dual .entry))) from (now (list .entry)))) ⌝ }
 {
-    let read = papers::read_papers(file, sheet);
+    let read = reading::read_papers(file, sheet);
     let PapersRead::Accepted(contents, literals) = read else {
         let PapersRead::Refused(refusal) = read else {
             return Continued::SpoiltSearch;
@@ -73,7 +73,7 @@ pub fn continue_search(
     };
     let total = scenario_count(contents.abducibles);
     let spoilt = is_spoilt(list, from.position, from.found, total);
-    let places = papers::folds::fold_places(file, contents);
+    let places = folds::fold_places(file, contents);
     let written = dual::write_accepted(file, contents, &places, dual, !spoilt);
     let DualWritten::Length(_) = written else {
         return Continued::ShortDual;

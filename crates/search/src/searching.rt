@@ -11,7 +11,7 @@ use crate::Report;
 use crate::State;
 use crate::stepping::Progress;
 use crate::stepping::try_lanes;
-use model::verdicts::judge_lanes;
+use lanes::verdicts::judge_lanes;
 use papers::Contents;
 
 // How many scenarios to judge next.

@@ -16,8 +16,8 @@ use Rattle.papers.proofs.FoldAnswers.{told}
 use Rattle.papers.proofs.PapersAnswers.{BothTold, both-told}
 use Rattle.dual.proofs.DualWritten.{the-type}
 use Rattle.dual.proofs.FileFacts.{program-valid}
-use Rattle.model.specs.FalseWords.{DualStarts}
-use Rattle.model.proofs.DroppedLaws.{filled-starts}
+use Rattle.lanes.specs.FalseWords.{DualStarts}
+use Rattle.lanes.proofs.DroppedLaws.{filled-starts}
 use Rattle.search.proofs.AnswerLaws.{papersIn, both-read, both-asked, few-abducibles, few-literals, scenarios-are, spoilt-is}
 use Rattle.search.proofs.AnswerLaws.{dual-fits, dual-short, dual-stays, dual-kept, dual-filled}
 use Rattle.search.proofs.AnswerLaws.{answers-refused, answers-short, answers-spoilt, answers-report}
