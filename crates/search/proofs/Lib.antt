@@ -22,4 +22,5 @@ pub mod Batches
 pub mod JudgedLanes
 pub mod CallLaws
 pub mod AnswerLaws
+pub mod SearchPause
 pub mod Examples

@@ -1,17 +1,18 @@
 -- A list of calls of `continue_search` over one file and one sheet, and what demand 3 says of it.
 use mathlib.Core.Path.{_≡_}
+use mathlib.Core.Bool.{cond}
 use mathlib.Core.List.{List, [], _∷_, map}
 use Prim.Native.Nat.{ℕ, _*_, _≤_}
 use lib.ListN.{length}
 use Rattle.literals.specs.Numbering.{judged}
-use Rattle.papers.specs.Outcome.{Outcome}
 use Rattle.papers.specs.Reading.{Papers, readPapers}
+use Rattle.dual.specs.Answers.{dualOf, filled}
 use Rattle.search.specs.declared.Continued.{Continued}
 use Rattle.search.specs.declared.Continued.the-variants.{Reported, ShortDual, SpoiltSearch, Refused}
-use Rattle.search.specs.Continuing.{Record, fresh}
+use Rattle.search.specs.Continuing.{Record}
 use Rattle.search.specs.Calls.{Call, Answer, refusal, report, Called, roundsBy}
 use Rattle.search.specs.Demand.{Demand}
-use Rattle.search.specs.Searching.{problemOf, callOf, continueAnswer, dualContinued, listContinued, recordContinued}
+use Rattle.search.specs.Searching.{problemOf, callOf, continueAnswer, dualContinued, listContinued, recordContinued, continuedNumber}
 
 -- "Allowance and dual buffer are each call's own."
 pub record Lent : Type 0 where
@@ -25,11 +26,11 @@ pub record Made : Type 0 where
   pub list : List ℕ
 
 -- By the three equations that `continue_search` ensures.
-abbrev pub made : Outcome Papers → Lent → Record → List ℕ → Made
-made read c from list = record {
-  answer = continueAnswer read (c .allowance) (length (c .dual)) from list;
-  dual = dualContinued read (c .allowance) (c .dual) from list;
-  list = listContinued read (c .allowance) (length (c .dual)) from list;
+abbrev pub made : List ℕ → List ℕ → Lent → Record → List ℕ → Made
+made file sheet c from list = record {
+  answer = continueAnswer (readPapers file sheet) (c .allowance) (length (c .dual)) from list;
+  dual = dualContinued (readPapers file sheet) (c .allowance) (c .dual) from list;
+  list = listContinued (readPapers file sheet) (c .allowance) (length (c .dual)) from list;
 }
 
 -- What a list of calls leaves, and what each made.
@@ -41,17 +42,18 @@ pub record Searched : Type 0 where
 abbrev pub firstMade : Made → Searched → Searched
 firstMade m s = record { last = s .last; list = s .list; each = m ∷ s .each }
 
--- "File, sheet and the length of the lent list are the same throughout": each call is given the record and the list as the call before
--- left them.
-unfoldable pub searchCalls : Outcome Papers → List Lent → Record → List ℕ → Searched
-searchCalls read [] from list = record { last = from; list = list; each = [] }
-searchCalls read (c ∷ cs) from list =
-    let m = made read c from list in
-    firstMade m (searchCalls read cs (recordContinued from (m .answer)) (m .list))
+-- "File, sheet and the length of the lent list are the same throughout." Each call is given the record and the list as the call before
+-- left them: a refused one "passes its record on unchanged".
+unfoldable pub searchCalls : List ℕ → List ℕ → List Lent → Record → List ℕ → Searched
+searchCalls file sheet [] from list = record { last = from; list = list; each = [] }
+searchCalls file sheet (c ∷ cs) from list =
+    let m = made file sheet c from list in
+    firstMade m (searchCalls file sheet cs (recordContinued from (m .answer)) (m .list))
 
 -- ---- demand 3
 
--- The call, and what it made, as the theory of calls has them.
+-- A call and what it made, as `Demand` speaks of them: of a dual buffer, whether it is too short; of an answer, its report with the
+-- list.
 unfoldable pub callFor : Papers → Lent → Call
 callFor q c = callOf q (c .allowance) (length (c .dual))
 
@@ -67,10 +69,28 @@ answerFor m = answered (m .answer) (m .list)
 abbrev pub calledBy : Searched → Called
 calledBy s = record { last = s .last; list = s .list; answers = map answerFor (s .each) }
 
--- What demand 3 says of the calls `cs` of `continue_search` over accepted papers `q` and a lent list that held `l` at the start.
+-- The number of a call's refusal, and its dual buffer afterwards.
+unfoldable pub numberOf : Made → ℕ
+numberOf m = continuedNumber (m .answer)
+
+unfoldable pub dualLeft : Made → List ℕ
+dualLeft m = m .dual
+
+-- By its dual buffer alone: 11 and unchanged where that is too short; else 0, and it begins with the dual.
+unfoldable pub numberFor : Papers → Lent → ℕ
+numberFor q c = cond (callFor q c .refused) 11 0
+
+unfoldable pub dualFor : Papers → Lent → List ℕ
+dualFor q c = cond (callFor q c .refused) (c .dual) (filled (dualOf (q .program)) (c .dual))
+
+-- What demand 3 says of the calls `cs` of `continue_search` from a fresh search, over papers that are accepted as `q` and a lent list
+-- that held `l` at the start; `s` is what they leave.
 pub record SearchDemand (q : Papers) (l : List ℕ) (cs : List Lent) (s : Searched) : Type 0 where
-  -- Line by line in `Demand`.
+  -- Record, list and sums: the lines of `Demand`.
   pub demand : Demand (problemOf q) l (map (callFor q) cs) (calledBy s)
-  -- "j is its round count, at most 2N", and so the rounds reported are at most 2N for each scenario tried.
+  -- "j is its round count, at most 2N": so the rounds reported are at most 2N for each scenario tried.
   pub most : (t : ℕ) → problemOf q .rounds t ≤ 2 * judged (q .program .atoms)
   pub bound : roundsBy (calledBy s .answers) ≤ 2 * judged (q .program .atoms) * s .last .position
+  -- A call is refused exactly where its own dual buffer is too short, and by 11.
+  pub numbers : map numberOf (s .each) ≡ map (numberFor q) cs
+  pub duals : map dualLeft (s .each) ≡ map (dualFor q) cs

@@ -1,9 +1,7 @@
 // A call over accepted papers: up to 64 scenarios judged at a time, and tried one by one.
 ghost use mathlib.Core.Path.{_≡_};
-ghost use mathlib.Core.Bool.{false};
 ghost use Prim.Native.Nat.{_≤_};
 ghost use Rattle.search.specs.Continuing.{stateBy, continue};
-ghost use Rattle.search.specs.Spoilt.{spoiltBy};
 ghost use Rattle.search.specs.Stepping.{Batch, Tried};
 ghost use Rattle.search.specs.Searching.{problemIn, toldReport, Ready, Sound};
 use crate::Record;
