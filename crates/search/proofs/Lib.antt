@@ -8,7 +8,6 @@ pub mod Sums
 pub mod Steps
 pub mod Runs
 pub mod General
-pub mod Looping
 pub mod Canonical
 pub mod Sound
 pub mod Keeping
