@@ -1,0 +1,107 @@
+-- Text put into a buffer piece by piece. Assumes nothing.
+use mathlib.Core.Path.{_≡_, refl, sym, ap, subst, _∙_}
+use mathlib.Core.List.{List, [], _∷_, _++_, append-assoc}
+use Prim.Native.Nat.{ℕ, suc, _+_, _≤_, _<_}
+use native.Mathlib.Omega.{arith}
+use native.Mathlib.Numerals.{add-one}
+use lib.ListN.{length, getD, set, take, drop, length-set, length-append}
+use lib.Seq.{drop-cons, sets, sets-eq, set-out}
+use Rattle.report.specs.Text.{written, spaced, line}
+
+-- Putting text leaves a buffer's length.
+pub written-length : (at : ℕ) (text buffer : List ℕ) → length (written at text buffer) ≡ length buffer
+unfolding written
+written-length at [] buffer = refl
+written-length at (b ∷ text) buffer = written-length (suc at) text (set buffer at b) ∙ length-set buffer at b
+
+-- One text after another is one text.
+pub written-append : (at : ℕ) (text more buffer : List ℕ) → written (at + length text) more (written at text buffer) ≡ written at (text ++ more) buffer
+unfolding written
+written-append at [] more buffer = ap (λ (k : ℕ). written k more buffer) (let e : at + 0 ≡ at = omega arith in e)
+written-append at (b ∷ text) more buffer =
+    ap (λ (k : ℕ). written k more (written (suc at) text (set buffer at b))) (let e : at + suc (length text) ≡ suc at + length text = omega arith in e)
+    ∙ written-append (suc at) text more (set buffer at b)
+
+pub written-one : (at b : ℕ) (buffer : List ℕ) → set buffer at b ≡ written at (b ∷ []) buffer
+unfolding written
+written-one at b buffer = refl
+
+-- A byte past the end is left out.
+pub written-out : (at b : ℕ) (buffer : List ℕ) → length buffer ≤ at → buffer ≡ written at (b ∷ []) buffer
+unfolding written
+written-out at b buffer h = sym (set-out buffer at b h)
+
+written-sets : (at : ℕ) (text buffer : List ℕ) → written at text buffer ≡ sets buffer at text
+unfolding written
+written-sets at [] buffer = refl
+written-sets at (b ∷ text) buffer = written-sets (suc at) text (set buffer at b)
+
+-- Text that fits: the bytes before it, the text, the bytes after it.
+pub written-fits : (at : ℕ) (text buffer : List ℕ) → at + length text ≤ length buffer
+    → written at text buffer ≡ take at buffer ++ text ++ drop (at + length text) buffer
+written-fits at text buffer h = written-sets at text buffer ∙ sets-eq text buffer at h
+
+-- ---- what is left to put
+
+-- Of the text `whole`, due in the buffer `first` from `start` on, `rest` is left: due in `buffer` from `at` on.
+pub record Left (start : ℕ) (whole first : List ℕ) (at : ℕ) (rest buffer : List ℕ) : Type 0 where
+  pub place : at + length rest ≡ start + length whole
+  pub bytes : written at rest buffer ≡ written start whole first
+
+pub left-all : (at : ℕ) (whole buffer : List ℕ) → Left at whole buffer at whole buffer
+left-all at whole buffer = record { place = refl; bytes = refl }
+
+pub left-after : {start : ℕ} {whole first : List ℕ} (at : ℕ) (text rest buffer : List ℕ) (next : ℕ) (after : List ℕ)
+    → Left start whole first at (text ++ rest) buffer → next ≡ at + length text → after ≡ written at text buffer → Left start whole first next rest after
+left-after {start} {whole} {first} at text rest buffer next after l e f =
+    let n = length-append text rest in
+    record {
+      place = let p = l .place in omega arith;
+      bytes = ap (λ (k : ℕ). written k rest after) e ∙ ap (λ (b : List ℕ). written (at + length text) rest b) f ∙ written-append at text rest buffer ∙ l .bytes;
+    }
+
+pub left-none : {start : ℕ} {whole first : List ℕ} (at : ℕ) (buffer : List ℕ) → Left start whole first at [] buffer
+    → (at ≡ start + length whole) × (buffer ≡ written start whole first)
+unfolding written
+left-none at buffer l = (let p = l .place in omega arith, l .bytes)
+
+-- One byte of a text.
+pub left-byte : {start : ℕ} {whole first : List ℕ} (at i : ℕ) (text buffer : List ℕ) (next : ℕ) (after : List ℕ) → i < length text
+    → Left start whole first at (drop i text) buffer → next ≡ at + 1 → after ≡ written at (getD text i 0 ∷ []) buffer
+    → Left start whole first next (drop (i + 1) text) after
+left-byte {start} {whole} {first} at i text buffer next after h l e f =
+    left-after at (getD text i 0 ∷ []) (drop (i + 1) text) buffer next after (rw (add-one, ← drop-cons text i 0 h) l) e f
+
+-- Two texts, one after the other.
+pub two-put : (at : ℕ) (x y buffer between after : List ℕ) (next end : ℕ) → next ≡ at + length x → between ≡ written at x buffer
+    → end ≡ next + length y → after ≡ written next y between → (end ≡ at + length (x ++ y)) × (after ≡ written at (x ++ y) buffer)
+two-put at x y buffer between after next end e f g k =
+    let l = length-append x y in
+    (omega arith, k ∙ ap (λ (p : ℕ). written p y between) e ∙ ap (λ (b : List ℕ). written (at + length x) y b) f ∙ written-append at x y buffer)
+
+-- ---- items
+
+-- What follows a line's first item.
+unfoldable pub further : List (List ℕ) → List ℕ
+further [] = 10 ∷ []
+further (item ∷ more) = 32 ∷ (item ++ further more)
+
+pub spaced-further : (items : List (List ℕ)) → spaced items ++ (10 ∷ []) ≡ further items
+unfolding spaced further
+spaced-further [] = refl
+spaced-further (item ∷ more) =
+    ap (λ (l : List ℕ). 32 ∷ l) (append-assoc item (spaced more) (10 ∷ []) ∙ ap (λ (l : List ℕ). item ++ l) (spaced-further more))
+
+pub line-further : (first : List ℕ) (more : List (List ℕ)) → line first more ≡ first ++ further more
+unfolding line
+line-further first more = ap (λ (l : List ℕ). first ++ l) (spaced-further more)
+
+pub spaced-append : (a b : List (List ℕ)) → spaced (a ++ b) ≡ spaced a ++ spaced b
+unfolding spaced
+spaced-append [] b = refl
+spaced-append (item ∷ a) b =
+    ap (λ (l : List ℕ). 32 ∷ l) (ap (λ (l : List ℕ). item ++ l) (spaced-append a b) ∙ sym (append-assoc item (spaced a) (spaced b)))
+
+-- A line that is due, by its first item and the further ones.
+pub left-line : (at : ℕ) (first : List ℕ) (more : List (List ℕ)) (buffer : List ℕ) → Left at (line first more) buffer at (first ++ further more) buffer
+left-line at first more buffer = let l = left-all at (line first more) buffer in subst (λ (x : List ℕ). Left at (line first more) buffer at x buffer) (line-further first more) l

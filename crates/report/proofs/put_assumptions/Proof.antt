@@ -1,0 +1,80 @@
+-- `report::put_assumptions` meets its contract. The loop's invariant: the items from the i-th abducible on are left to put.
+-- Assumes nothing.
+use mathlib.Core.Path.{_≡_, refl, _∙_}
+use Prim.Native.Nat.{_+_, _-_, _*_, _/_, _%_, _≤_}
+use native.Mathlib.Omega.{arith}
+use borrow.Author.Needs.{needs}
+use denote.Ref.{now}
+use lib.ListN.{length, drop}
+use Rattle.papers.specs.Field.{numbers}
+use Rattle.report.specs.Text.{spaced}
+use Rattle.report.specs.Lines.{assumption, assumptions}
+use Rattle.report.proofs.Putting.{Left, left-all, left-after, left-none}
+use Rattle.report.proofs.Items.{items-none, items-next}
+use Rattle.report.proofs.put_assumptions.Statement.{statement}
+use Rattle.report.proofs.put_assumptions.Tie as tie
+
+abbrev Inv-loop : tie.InvT-loop
+Inv-loop buffer₀ at scenario abducibles count end₀ rest₀ i₀ buffer end rest i =
+    Left at (spaced (assumptions (numbers abducibles) scenario)) buffer₀ end (spaced (assumptions (numbers (drop (2 * i) abducibles)) rest)) buffer
+    × ((i ≤ count) × ((end ≤ at + 22 * i) × (length buffer ≡ length buffer₀)))
+
+abbrev μ-loop : tie.MeasureT-loop
+μ-loop buffer₀ at scenario abducibles count end₀ rest₀ i₀ buffer end rest i = count - i
+
+loop-holds : tie.Need-loop-holds Inv-loop μ-loop
+loop-holds c =
+    let a = c .before .before .args in
+    (left-all (a .at) (spaced (assumptions (numbers (now (a .abducibles))) (a .scenario))) (now (a .buffer)), (omega arith, (omega arith, refl)))
+
+mul-number-at : tie.Need-mul-number-at Inv-loop μ-loop
+mul-number-at c = search needs
+
+number-at-requires : tie.Need-number-at-requires Inv-loop μ-loop
+number-at-requires c κs = search needs
+
+put-assumption-requires : tie.Need-put-assumption-requires Inv-loop μ-loop
+put-assumption-requires c κs = omega arith
+
+add-i : tie.Need-add-i Inv-loop μ-loop
+add-i c = search needs
+
+loop-less : tie.Need-loop-less Inv-loop μ-loop
+loop-less c = search needs
+
+loop-again : tie.Need-loop-again Inv-loop μ-loop
+loop-again c =
+    let a = c .before .before .before .before .before .before .before .before .before .args in
+    let l = c .before .before .before .before .before .before .loop in
+    let put = c .before .before .put-assumption in
+    let atom = c .before .before .before .number-at in
+    let next = items-next (now (a .abducibles)) (l .i) (l .rest) (atom .result) (c .before .before .before .before .before .loop-test .taken) (atom .ensures .0) in (
+      left-after (l .end) (spaced (assumption (atom .result) (l .rest % 3))) (spaced (assumptions (numbers (drop (2 * (l .i + 1)) (now (a .abducibles)))) (l .rest / 3))) (l .buffer) (put .result) (put .last .0) (rw next at (l .inv .0)) (put .ensures .0) (put .ensures .1 .1),
+      (omega arith, (omega arith, put .kept .0 ∙ l .inv .1 .1 .1)),
+    )
+
+same-length : tie.Need-same-length Inv-loop μ-loop
+same-length c = c .before .loop .inv .1 .1 .1
+
+returns : tie.Need-returns Inv-loop μ-loop
+returns c =
+    let a = c .before .before .before .before .args in
+    let l = c .before .loop in
+    let p = left-none (l .end) (l .buffer) (rw (items-none (now (a .abducibles)) (l .i) (l .rest) (c .loop-test .left)) at (l .inv .0)) in
+    (p .0, (omega arith, p .1))
+
+pub put-assumptions-spec : {M : Type 1} → statement M
+put-assumptions-spec =
+    tie.close
+    (tie.spec
+    Inv-loop
+    μ-loop
+    loop-holds
+    mul-number-at
+    number-at-requires
+    put-assumption-requires
+    add-i
+    loop-less
+    loop-again
+    same-length
+    returns)

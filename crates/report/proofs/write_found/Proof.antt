@@ -1,0 +1,53 @@
+-- `report::write_found` meets its contract.
+-- Assumes nothing.
+use mathlib.Core.List.{[], _∷_, _++_}
+use denote.Ref.{now}
+use Rattle.papers.specs.Field.{numbers}
+use Rattle.report.specs.Decimal.{decimal}
+use Rattle.report.specs.Text.{spaced}
+use Rattle.report.specs.Lines.{foundLine, foundWord, assumptions}
+use Rattle.report.proofs.Putting.{further, spaced-further, left-line, left-after, left-none}
+use borrow.Author.Needs.{needs}
+use Rattle.report.proofs.write_found.Statement.{statement}
+use Rattle.report.proofs.write_found.Tie as tie
+
+slice-aggregate-put-number : tie.Need-slice-aggregate-put-number
+slice-aggregate-put-number c = search needs
+
+put-number-requires : tie.Need-put-number-requires
+put-number-requires c κs = search needs
+
+put-assumptions-requires : tie.Need-put-assumptions-requires
+put-assumptions-requires c κs = search needs
+
+put-byte-requires : tie.Need-put-byte-requires
+put-byte-requires c κs = search needs
+
+same-length : tie.Need-same-length
+same-length c = search needs
+
+returns : tie.Need-returns
+unfolding foundLine further
+returns c =
+    let a = c .before .before .before .before .before .before .before .before .before .before .before .before .before .before .before .args in
+    let first = c .before .before .before .before .before .before .before .before .before .before .put-number in
+    let second = c .before .before .before .before .before .before .put-assumptions in
+    let end = c .before .before .put-byte in
+    let n = decimal (a .scenario) in
+    let items = assumptions (numbers (now (a .abducibles))) (a .scenario) in
+    let l = left-line (a .at) foundWord (n ∷ items) (now (a .buffer)) in
+    let m = left-after (a .at) (foundWord ++ 32 ∷ n) (further items) (now (a .buffer)) (first .result) (first .last .0) l (first .ensures .0) (first .ensures .1 .1) in
+    let o = left-after (first .result) (spaced items) (10 ∷ []) (first .last .0) (second .result) (second .last .0) (rw (← spaced-further items) at m) (second .ensures .0) (second .ensures .1 .1) in
+    let q = left-after (second .result) (10 ∷ []) [] (second .last .0) (end .result) (end .last .0) o (end .ensures .0) (end .ensures .1) in
+    left-none (end .result) (end .last .0) q
+
+pub write-found-spec : {M : Type 1} → statement M
+write-found-spec =
+    tie.close
+    (tie.spec
+    slice-aggregate-put-number
+    put-number-requires
+    put-assumptions-requires
+    put-byte-requires
+    same-length
+    returns)

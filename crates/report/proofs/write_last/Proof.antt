@@ -1,0 +1,61 @@
+-- `report::write_last` meets its contract.
+-- Assumes nothing.
+use mathlib.Core.List.{[], _∷_, _++_}
+use denote.Ref.{now}
+use borrow.Author.Needs.{needs}
+use Rattle.report.specs.Decimal.{decimal}
+use Rattle.report.specs.Lines.{lastLine, stateWord, triedWord, roundsWord}
+use Rattle.report.proofs.Putting.{further, left-line, left-after, left-none}
+use Rattle.report.proofs.write_last.Statement.{statement}
+use Rattle.report.proofs.write_last.Tie as tie
+
+put-state-requires : tie.Need-put-state-requires
+put-state-requires c κs = search needs
+
+slice-aggregate-put-number : tie.Need-slice-aggregate-put-number
+slice-aggregate-put-number c = search needs
+
+put-number-requires : tie.Need-put-number-requires
+put-number-requires c κs = search needs
+
+slice-aggregate-put-number-2 : tie.Need-slice-aggregate-put-number-2
+slice-aggregate-put-number-2 c = search needs
+
+put-number-requires-2 : tie.Need-put-number-requires-2
+put-number-requires-2 c κs = search needs
+
+put-byte-requires : tie.Need-put-byte-requires
+put-byte-requires c κs = search needs
+
+same-length : tie.Need-same-length
+same-length c = search needs
+
+returns : tie.Need-returns
+unfolding lastLine further
+returns c =
+    let a = c .before .before .before .before .before .before .before .before .before .before .before .before .before .before .before .before .before .before .before .args in
+    let first = c .before .before .before .before .before .before .before .before .before .before .before .before .before .before .before .before .put-state in
+    let second = c .before .before .before .before .before .before .before .before .before .before .before .put-number in
+    let third = c .before .before .before .before .before .before .put-number2 in
+    let end = c .before .before .put-byte in
+    let t = decimal (a .tried) in
+    let r = decimal (a .rounds) in
+    let l = left-line (a .at) (stateWord (a .state)) (triedWord ∷ t ∷ roundsWord ∷ r ∷ []) (now (a .buffer)) in
+    let m = left-after (a .at) (stateWord (a .state)) (further (triedWord ∷ t ∷ roundsWord ∷ r ∷ [])) (now (a .buffer)) (first .result) (first .last .0) l (first .ensures .0) (first .ensures .1 .1) in
+    let o = left-after (first .result) (32 ∷ triedWord ++ 32 ∷ t) (further (roundsWord ∷ r ∷ [])) (first .last .0) (second .result) (second .last .0) m (second .ensures .0) (second .ensures .1 .1) in
+    let p = left-after (second .result) (32 ∷ roundsWord ++ 32 ∷ r) (further []) (second .last .0) (third .result) (third .last .0) o (third .ensures .0) (third .ensures .1 .1) in
+    let q = left-after (third .result) (10 ∷ []) [] (third .last .0) (end .result) (end .last .0) p (end .ensures .0) (end .ensures .1) in
+    left-none (end .result) (end .last .0) q
+
+pub write-last-spec : {M : Type 1} → statement M
+write-last-spec =
+    tie.close
+    (tie.spec
+    put-state-requires
+    slice-aggregate-put-number
+    put-number-requires
+    slice-aggregate-put-number-2
+    put-number-requires-2
+    put-byte-requires
+    same-length
+    returns)

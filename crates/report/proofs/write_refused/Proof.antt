@@ -1,0 +1,56 @@
+-- `report::write_refused` meets its contract.
+-- Assumes nothing.
+use mathlib.Core.List.{[], _∷_, _++_, append-assoc}
+use denote.Ref.{now}
+use borrow.Author.Needs.{needs}
+use Rattle.report.specs.Decimal.{decimal}
+use Rattle.report.specs.Lines.{refusedLine, refusedWord, paperWord}
+use Rattle.report.proofs.Putting.{further, left-line, left-after, left-none}
+use Rattle.report.proofs.write_refused.Statement.{statement}
+use Rattle.report.proofs.write_refused.Tie as tie
+
+cast-number : tie.Need-cast-number
+cast-number c = search needs
+
+slice-aggregate-put-number : tie.Need-slice-aggregate-put-number
+slice-aggregate-put-number c = search needs
+
+put-number-requires : tie.Need-put-number-requires
+put-number-requires c κs = search needs
+
+put-place-requires : tie.Need-put-place-requires
+put-place-requires c κs = search needs
+
+put-byte-requires : tie.Need-put-byte-requires
+put-byte-requires c κs = search needs
+
+same-length : tie.Need-same-length
+same-length c = search needs
+
+returns : tie.Need-returns
+unfolding refusedLine further
+returns c =
+    let a = c .before .before .before .before .before .before .before .before .before .before .before .before .before .before .before .args in
+    let first = c .before .before .before .before .before .before .before .before .before .before .put-number in
+    let second = c .before .before .before .before .before .before .put-place in
+    let end = c .before .before .put-byte in
+    let n = decimal (a .refusal .number) in
+    let w = paperWord (a .refusal .paper) in
+    let p = decimal (a .refusal .place) in
+    let l = left-line (a .at) refusedWord (n ∷ w ∷ p ∷ []) (now (a .buffer)) in
+    let m = left-after (a .at) (refusedWord ++ 32 ∷ n) (further (w ∷ p ∷ [])) (now (a .buffer)) (first .result) (first .last .0) l (first .ensures .0) (first .ensures .1 .1) in
+    let o = left-after (first .result) (32 ∷ (w ++ 32 ∷ p)) (further []) (first .last .0) (second .result) (second .last .0) (rw (← append-assoc w (32 ∷ p) (10 ∷ [])) at m) (second .ensures .0) (second .ensures .1 .1) in
+    let q = left-after (second .result) (10 ∷ []) [] (second .last .0) (end .result) (end .last .0) o (end .ensures .0) (end .ensures .1) in
+    left-none (end .result) (end .last .0) q
+
+pub write-refused-spec : {M : Type 1} → statement M
+write-refused-spec =
+    tie.close
+    (tie.spec
+    cast-number
+    slice-aggregate-put-number
+    put-number-requires
+    put-place-requires
+    put-byte-requires
+    same-length
+    returns)

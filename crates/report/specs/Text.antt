@@ -1,0 +1,18 @@
+-- Text in a buffer, and the items of a line.
+use mathlib.Core.List.{List, [], _∷_, _++_}
+use Prim.Native.Nat.{ℕ, suc}
+use lib.ListN.{set}
+
+-- A buffer once text stands in it from a place on: its other bytes stay, and what lies past its end is left out.
+unfoldable pub written : ℕ → List ℕ → List ℕ → List ℕ
+written at [] buffer = buffer
+written at (byte ∷ text) buffer = written (suc at) text (set buffer at byte)
+
+-- Items, each after one space (32).
+unfoldable pub spaced : List (List ℕ) → List ℕ
+spaced [] = []
+spaced (item ∷ more) = 32 ∷ (item ++ spaced more)
+
+-- A line: its items "with one space between", then the newline (10).
+unfoldable pub line : List ℕ → List (List ℕ) → List ℕ
+line first more = first ++ (spaced more ++ (10 ∷ []))

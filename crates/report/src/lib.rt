@@ -1,0 +1,136 @@
+// The lines that the desk program prints, each written into a lent buffer from a place on. Each
+// function answers the place after its line; bytes past the buffer's end are left out.
+mod text;
+
+ghost use mathlib.Core.Path.{_≡_};
+ghost use mathlib.Core.List.{[], _∷_, _++_};
+ghost use Prim.Native.Nat.{_+_, _*_, _<_, _≤_, _^_};
+ghost use lib.ListN.{length};
+ghost use Rattle.papers.specs.Field.{numbers};
+ghost use Rattle.report.specs.Decimal.{decimal};
+ghost use Rattle.report.specs.Text.{written, spaced};
+ghost use Rattle.report.specs.Lines.{stateWord, paperWord, assumption, assumptions, headingLine, foundLine, lastLine, refusedLine};
+ghost use Rattle.report.specs.Lines.{sign as signOf};
+use papers::Paper;
+use papers::Refusal;
+use fields::field::number_at;
+use text::put_byte;
+use text::put_number;
+use text::put_text;
+
+// How a search stands after a call.
+pub enum State {
+    Going,
+    Full,
+    Ended,
+}
+
+// `atoms 2 abducibles 1 scenarios 3`
+pub fn write_heading(
+    buffer: &mut [u8],
+    at: usize,
+    atoms: u64,
+    abducibles: u64,
+    scenarios: u64,
+) -> usize
+    requires { ⌜ at < 2 ^ 32 ⌝ }
+    ensures { λ r. ⌜ (r ≡ at + length (headingLine atoms abducibles scenarios)) × (now (buffer .exit) ≡ written at (headingLine atoms abducibles scenarios) (now (buffer .entry))) ⌝ }
+{
+    let first = put_number(buffer, at, b"atoms ", atoms);
+    let second = put_number(buffer, first, b" abducibles ", abducibles);
+    let third = put_number(buffer, second, b" scenarios ", scenarios);
+    put_byte(buffer, third, b'\n')
+}
+
+fn sign(digit: u32) -> u8
+    ensures { λ r. ⌜ r ≡ signOf digit ⌝ }
+{
+    if digit == 1 {
+        return b'+';
+    }
+    b'-'
+}
+
+// An abducible by its digit: nothing where it is open.
+fn put_assumption(buffer: &mut [u8], at: usize, atom: usize, digit: u32) -> usize
+    requires { ⌜ at < 2 ^ 40 ⌝ }
+    ensures { λ r. ⌜ (r ≡ at + length (spaced (assumption atom digit))) × ((r ≤ at + 22) × (now (buffer .exit) ≡ written at (spaced (assumption atom digit)) (now (buffer .entry)))) ⌝ }
+{
+    if digit == 0 {
+        return at;
+    }
+    let end = put_number(buffer, at, b" ", atom as u64);
+    put_byte(buffer, end, sign(digit))
+}
+
+// Each assumed or ruled-out abducible of a scenario.
+fn put_assumptions(buffer: &mut [u8], at: usize, scenario: u32, abducibles: &[u8]) -> usize
+    requires { ⌜ (at < 2 ^ 33) × (length (now abducibles) ≤ 32) ⌝ }
+    ensures { λ r. ⌜ (r ≡ at + length (spaced (assumptions (numbers (now (abducibles .entry))) scenario))) × ((r ≤ at + 352) × (now (buffer .exit) ≡ written at (spaced (assumptions (numbers (now (abducibles .entry))) scenario)) (now (buffer .entry)))) ⌝ }
+{
+    let count = abducibles.len() / 2;
+    let mut end = at;
+    let mut rest = scenario;
+    let mut i: usize = 0;
+    while i < count {
+        end = put_assumption(buffer, end, number_at(abducibles, 2 * i), rest % 3);
+        rest /= 3;
+        i += 1;
+    }
+    end
+}
+
+// `found 1 1+`: the scenario, and the abducibles' numbers as they stand in a file.
+pub fn write_found(buffer: &mut [u8], at: usize, scenario: u32, abducibles: &[u8]) -> usize
+    requires { ⌜ (at < 2 ^ 32) × (length (now abducibles) ≤ 32) ⌝ }
+    ensures { λ r. ⌜ (r ≡ at + length (foundLine scenario (numbers (now (abducibles .entry))))) × (now (buffer .exit) ≡ written at (foundLine scenario (numbers (now (abducibles .entry)))) (now (buffer .entry))) ⌝ }
+{
+    let first = put_number(buffer, at, b"found ", scenario as u64);
+    let second = put_assumptions(buffer, first, scenario, abducibles);
+    put_byte(buffer, second, b'\n')
+}
+
+fn put_state(buffer: &mut [u8], at: usize, state: State) -> usize
+    requires { ⌜ at < 2 ^ 32 ⌝ }
+    ensures { λ r. ⌜ (r ≡ at + length (stateWord state)) × ((r ≤ at + 5) × (now (buffer .exit) ≡ written at (stateWord state) (now (buffer .entry)))) ⌝ }
+{
+    match state {
+        State::Going => put_text(buffer, at, b"going"),
+        State::Full => put_text(buffer, at, b"full"),
+        State::Ended => put_text(buffer, at, b"ended"),
+    }
+}
+
+// `ended tried 3 rounds 3`
+pub fn write_last(buffer: &mut [u8], at: usize, state: State, tried: u64, rounds: u64) -> usize
+    requires { ⌜ at < 2 ^ 32 ⌝ }
+    ensures { λ r. ⌜ (r ≡ at + length (lastLine state tried rounds)) × (now (buffer .exit) ≡ written at (lastLine state tried rounds) (now (buffer .entry))) ⌝ }
+{
+    let first = put_state(buffer, at, state);
+    let second = put_number(buffer, first, b" tried ", tried);
+    let third = put_number(buffer, second, b" rounds ", rounds);
+    put_byte(buffer, third, b'\n')
+}
+
+fn put_place(buffer: &mut [u8], at: usize, paper: Paper, place: u64) -> usize
+    requires { ⌜ at < 2 ^ 33 ⌝ }
+    ensures { λ r. ⌜ (r ≡ at + length (32 ∷ (paperWord paper ++ (32 ∷ decimal place)))) × ((r ≤ at + 27) × (now (buffer .exit) ≡ written at (32 ∷ (paperWord paper ++ (32 ∷ decimal place))) (now (buffer .entry)))) ⌝ }
+{
+    match paper {
+        Paper::File => put_number(buffer, at, b" file ", place),
+        Paper::Sheet => put_number(buffer, at, b" sheet ", place),
+    }
+}
+
+// `refused 6 sheet 0`
+pub fn write_refused(buffer: &mut [u8], at: usize, refusal: Refusal) -> usize
+    requires { ⌜ at < 2 ^ 32 ⌝ }
+    ensures { λ r. ⌜ (r ≡ at + length (refusedLine refusal)) × (now (buffer .exit) ≡ written at (refusedLine refusal) (now (buffer .entry))) ⌝ }
+{
+    let number = refusal.number as u64;
+    let paper = refusal.paper;
+    let place = refusal.place as u64;
+    let first = put_number(buffer, at, b"refused ", number);
+    let second = put_place(buffer, first, paper, place);
+    put_byte(buffer, second, b'\n')
+}
