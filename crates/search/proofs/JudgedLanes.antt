@@ -1,6 +1,6 @@
 -- What judging tells of 64 scenarios, as the steps need it.
 -- Assumes nothing.
-use mathlib.Core.Path.{_≡_, sym, ap}
+use mathlib.Core.Path.{_≡_, ap}
 use mathlib.Core.List.{List}
 use Prim.Native.Nat.{ℕ, _+_, _≤_, _<_}
 use native.Mathlib.Omega.{arith}
@@ -11,7 +11,6 @@ use Rattle.papers.specs.Program.{Program, Query}
 use Rattle.papers.specs.Reading.{readFile, programIn}
 use Rattle.papers.specs.Answers.{fileAnswer}
 use Rattle.papers.proofs.FoldAnswers.{told}
-use Rattle.model.specs.Model.{rounds}
 use Rattle.lanes.specs.VerdictLanes.{VerdictLanes}
 use Rattle.model.proofs.Rounds.{rounds-le}
 use Rattle.search.specs.Stepping.{InLanes}

@@ -4,20 +4,18 @@ use mathlib.Core.Path.{_≡_, refl, sym, ap, ap₂, subst, _∙_}
 use mathlib.Core.Bool.{Bool, true, false, cond}
 use mathlib.Core.List.{List, [], _∷_, map}
 use Prim.Native.Nat.{ℕ, _*_}
-use native.Mathlib.Omega.{arith}
-use lib.ListN.{length}
-use Rattle.papers.specs.Outcome.{Outcome, accepted}
+use Rattle.papers.specs.declared.Refusal.{Refusal}
+use Rattle.papers.specs.Outcome.{accepted, refused}
 use Rattle.papers.specs.Reading.{Papers, readPapers}
 use Rattle.dual.specs.Answers.{dualOf, filled}
 use Rattle.model.proofs.Rounds.{rounds-le}
 use Rattle.literals.specs.Numbering.{judged}
-use Rattle.search.specs.declared.Continued.{Continued}
 use Rattle.search.specs.declared.Continued.the-variants.{ShortDual, SpoiltSearch}
 use Rattle.search.specs.Continuing.{Record, fresh}
-use Rattle.search.specs.Calls.{Call, Answer, refusal, report, answer, recordAfter, listAfter, Called, first, calls}
+use Rattle.search.specs.Calls.{Call, Answer, refusal, report, answer, recordAfter, listAfter, first, calls}
 use Rattle.search.specs.Demand.{isRefused, isRefusal, Demand}
-use Rattle.search.specs.Searching.{problemOf, answerOf, continuedBy, bufferBy, continuedNumber, recordContinued}
-use Rattle.search.specs.SearchCalls.{Lent, Made, made, Searched, searchCalls, callFor, answered, answerFor, calledBy}
+use Rattle.search.specs.Searching.{problemOf, continuedBy, bufferBy, continuedNumber, recordContinued}
+use Rattle.search.specs.SearchCalls.{Lent, made, firstMade, searchCalls, refusedMade, callFor, answered, answerFor, calledBy}
 use Rattle.search.specs.SearchCalls.{numberOf, dualLeft, numberFor, dualFor, SearchDemand}
 use Rattle.search.proofs.Pause.{pause}
 
@@ -99,3 +97,10 @@ module _ (file sheet : List ℕ) (q : Papers) (read : readPapers file sheet ≡ 
         numbers = t .0;
         duals = t .1;
       }
+
+-- Over papers that are refused, each call answers so and leaves all as it was.
+pub search-refused : (file sheet : List ℕ) (r : Refusal) → readPapers file sheet ≡ refused r → (cs : List Lent) (from : Record) (list : List ℕ)
+    → searchCalls file sheet cs from list ≡ record { last = from; list = list; each = map (refusedMade r list) cs }
+unfolding searchCalls refusedMade
+search-refused file sheet r read [] from list = refl
+search-refused file sheet r read (c ∷ cs) from list = rw read (ap (firstMade (refusedMade r list c)) (search-refused file sheet r read cs from list))

@@ -5,6 +5,7 @@ use mathlib.Core.List.{List, [], _∷_, map}
 use Prim.Native.Nat.{ℕ, _*_, _≤_}
 use lib.ListN.{length}
 use Rattle.literals.specs.Numbering.{judged}
+use Rattle.papers.specs.declared.Refusal.{Refusal}
 use Rattle.papers.specs.Reading.{Papers, readPapers}
 use Rattle.dual.specs.Answers.{dualOf, filled}
 use Rattle.search.specs.declared.Continued.{Continued}
@@ -49,6 +50,10 @@ searchCalls file sheet [] from list = record { last = from; list = list; each = 
 searchCalls file sheet (c ∷ cs) from list =
     let m = made file sheet c from list in
     firstMade m (searchCalls file sheet cs (recordContinued from (m .answer)) (m .list))
+
+-- What a call makes of papers that are refused by r: "buffers and record are unchanged".
+unfoldable pub refusedMade : Refusal → List ℕ → Lent → Made
+refusedMade r list c = record { answer = Refused r; dual = c .dual; list = list }
 
 -- ---- demand 3
 

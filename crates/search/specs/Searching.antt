@@ -97,7 +97,7 @@ pub record Ready (file : List ℕ) (contents : Contents) (places dual query : Li
   pub room : before .tried + count < 4294967296
 
 -- Papers that can be judged, and a record and a list that pass test 14.
-pub record Sound (file : List ℕ) (contents : Contents) (places dual query : List ℕ) (total : ℕ) (from : Record) (list : List ℕ)
+pub record Passed (file : List ℕ) (contents : Contents) (places dual query : List ℕ) (total : ℕ) (from : Record) (list : List ℕ)
     : Type 0 where
   pub prepared : Prepared file contents places dual query
   pub scenarios : total ≡ 3 ^ length ((programIn file) .abducibles)

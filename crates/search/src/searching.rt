@@ -3,7 +3,7 @@ ghost use mathlib.Core.Path.{_≡_};
 ghost use Prim.Native.Nat.{_≤_};
 ghost use Rattle.search.specs.Continuing.{stateBy, continue};
 ghost use Rattle.search.specs.Stepping.{Batch, Tried};
-ghost use Rattle.search.specs.Searching.{problemIn, toldReport, Ready, Sound};
+ghost use Rattle.search.specs.Searching.{problemIn, toldReport, Ready, Passed};
 use crate::Record;
 use crate::Report;
 use crate::State;
@@ -123,7 +123,7 @@ pub(crate) fn search_accepted(
     from: Record,
     allowance: u32,
 ) -> Report
-    requires { ⌜ Sound (now file) contents (now places) (now dual) (now query) total from (now list) ⌝ }
+    requires { ⌜ Passed (now file) contents (now places) (now dual) (now query) total from (now list) ⌝ }
     ensures { λ r. ⌜ (r ≡ toldReport (continue (problemIn (now (file .entry)) (now (query .entry))) allowance from (now (list .entry)))) × (now (list .exit) ≡ (continue (problemIn (now (file .entry)) (now (query .entry))) allowance from (now (list .entry))) .list) ⌝ }
 {
     let before = Progress {
