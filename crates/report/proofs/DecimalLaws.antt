@@ -1,17 +1,15 @@
 -- Decimal numbers: the digits as they follow from those of n / 10, how many there are, that they read back as the number, and that
 -- none leads with a zero. Assumes nothing.
-use mathlib.Core.Bool.{cond}
 use mathlib.Core.Path.{_≡_, refl, sym, ap, _∙_}
 use mathlib.Core.List.{List, [], _∷_, _++_}
 use Prim.Native.Nat.{ℕ, zero, suc, _+_, _-_, _*_, _/_, _%_, _^_, _≤_, _<_}
 use native.Mathlib.Omega.{arith}
 use native.Mathlib.Decide.{decLt}
 use borrow.Author.Tests.{lt-ltb, le-ltb}
-use lib.Dec.{ltb}
 use lib.ListN.{length, getD, length-append, List·getD-append}
 use Rattle.report.specs.Decimal.{digits, decimal}
-use Rattle.report.specs.Text.{written}
-use Rattle.report.proofs.Putting.{written-append}
+use Rattle.report.specs.Text.{Put}
+use Rattle.report.proofs.Putting.{put-two}
 
 -- ---- one digit, and one more
 
@@ -102,18 +100,14 @@ decimal-leading n p = leading (suc n) n (omega arith) p .0
 
 -- ---- put into a buffer
 
-pub one-put : (at n : ℕ) (buffer after : List ℕ) (end : ℕ) → n < 10 → end ≡ at + 1 → after ≡ written at ((48 + n) ∷ []) buffer
-    → (end ≡ at + length (decimal n)) × ((end ≤ at + 20) × (after ≡ written at (decimal n) buffer))
-one-put at n buffer after end h e f = rw (decimal-one n h) (omega arith, (omega arith, f))
+module _ {at : ℕ} {buffer : List ℕ} (n : ℕ) where
+  pub one-put : {end : ℕ} {after : List ℕ} → n < 10 → Put at ((48 + n) ∷ []) buffer end after → Put at (decimal n) buffer end after × (end ≤ at + 20)
+  one-put h put = (rw (decimal-one n h) put, let p = put .place in omega arith)
 
-pub more-put : (at n : ℕ) (buffer between after : List ℕ) (next end : ℕ) → n < 2 ^ 64 → 10 ≤ n
-    → next ≡ at + length (decimal (n / 10)) → between ≡ written at (decimal (n / 10)) buffer
-    → end ≡ next + 1 → after ≡ written next ((48 + n % 10) ∷ []) between
-    → (end ≡ at + length (decimal n)) × ((end ≤ at + 20) × (after ≡ written at (decimal n) buffer))
-more-put at n buffer between after next end fits h e f g k =
-    let l : length (decimal n) ≡ length (decimal (n / 10)) + 1 = ap length (decimal-more n h) ∙ length-append (decimal (n / 10)) ((48 + n % 10) ∷ []) in
-    let most = decimal-length 19 n (omega arith) in
-    let b : after ≡ written at (decimal (n / 10) ++ ((48 + n % 10) ∷ [])) buffer =
-    k ∙ ap (λ (p : ℕ). written p ((48 + n % 10) ∷ []) between) e ∙ ap (λ (x : List ℕ). written (at + length (decimal (n / 10))) ((48 + n % 10) ∷ []) x) f
-    ∙ written-append at (decimal (n / 10)) ((48 + n % 10) ∷ []) buffer in
-    (omega arith, (omega arith, b ∙ ap (λ (x : List ℕ). written at x buffer) (sym (decimal-more n h))))
+  pub more-put : {next end : ℕ} {between after : List ℕ} → n < 2 ^ 64 → 10 ≤ n → Put at (decimal (n / 10)) buffer next between
+      → Put next ((48 + n % 10) ∷ []) between end after → Put at (decimal n) buffer end after × (end ≤ at + 20)
+  more-put {end = end} {after = after} fits h higher last =
+      let put = put-two (decimal (n / 10)) ((48 + n % 10) ∷ []) higher last in
+      let whole : Put at (decimal n) buffer end after = rw (decimal-more n h) put in
+      let few = decimal-length 19 n (omega arith) in
+      (whole, let p = whole .place in omega arith)

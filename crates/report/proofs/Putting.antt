@@ -1,12 +1,12 @@
 -- Text put into a buffer piece by piece. Assumes nothing.
 use mathlib.Core.Path.{_≡_, refl, sym, ap, subst, _∙_}
-use mathlib.Core.List.{List, [], _∷_, _++_, append-assoc}
+use mathlib.Core.List.{List, [], _∷_, _++_, append-assoc, append-nil}
 use Prim.Native.Nat.{ℕ, suc, _+_, _≤_, _<_}
 use native.Mathlib.Omega.{arith}
 use native.Mathlib.Numerals.{add-one}
 use lib.ListN.{length, getD, set, take, drop, length-set, length-append}
 use lib.Seq.{drop-cons, sets, sets-eq, set-out}
-use Rattle.report.specs.Text.{written, spaced, line}
+use Rattle.report.specs.Text.{written, Put, spaced, line}
 
 -- Putting text leaves a buffer's length.
 pub written-length : (at : ℕ) (text buffer : List ℕ) → length (written at text buffer) ≡ length buffer
@@ -51,33 +51,34 @@ pub record Left (start : ℕ) (whole first : List ℕ) (at : ℕ) (rest buffer :
 pub left-all : (at : ℕ) (whole buffer : List ℕ) → Left at whole buffer at whole buffer
 left-all at whole buffer = record { place = refl; bytes = refl }
 
-pub left-after : {start : ℕ} {whole first : List ℕ} (at : ℕ) (text rest buffer : List ℕ) (next : ℕ) (after : List ℕ)
-    → Left start whole first at (text ++ rest) buffer → next ≡ at + length text → after ≡ written at text buffer → Left start whole first next rest after
-left-after {start} {whole} {first} at text rest buffer next after l e f =
+pub left-after : {start : ℕ} {whole first : List ℕ} {at : ℕ} {buffer : List ℕ} {next : ℕ} {after : List ℕ} (text rest : List ℕ)
+    → Put at text buffer next after → Left start whole first at (text ++ rest) buffer → Left start whole first next rest after
+left-after {at = at} {buffer = buffer} {next = next} {after = after} text rest put l =
     let n = length-append text rest in
     record {
-      place = let p = l .place in omega arith;
-      bytes = ap (λ (k : ℕ). written k rest after) e ∙ ap (λ (b : List ℕ). written (at + length text) rest b) f ∙ written-append at text rest buffer ∙ l .bytes;
+      place = let p = l .place in let q = put .place in omega arith;
+      bytes =
+          ap (λ (k : ℕ). written k rest after) (put .place)
+          ∙ ap (λ (b : List ℕ). written (at + length text) rest b) (put .bytes)
+          ∙ written-append at text rest buffer
+          ∙ l .bytes;
     }
 
-pub left-none : {start : ℕ} {whole first : List ℕ} (at : ℕ) (buffer : List ℕ) → Left start whole first at [] buffer
-    → (at ≡ start + length whole) × (buffer ≡ written start whole first)
+pub left-none : {start : ℕ} {whole first : List ℕ} {at : ℕ} {buffer : List ℕ} → Left start whole first at [] buffer → Put start whole first at buffer
 unfolding written
-left-none at buffer l = (let p = l .place in omega arith, l .bytes)
+left-none l = record { place = let p = l .place in omega arith; bytes = l .bytes }
 
 -- One byte of a text.
-pub left-byte : {start : ℕ} {whole first : List ℕ} (at i : ℕ) (text buffer : List ℕ) (next : ℕ) (after : List ℕ) → i < length text
-    → Left start whole first at (drop i text) buffer → next ≡ at + 1 → after ≡ written at (getD text i 0 ∷ []) buffer
+pub left-byte : {start : ℕ} {whole first : List ℕ} {at : ℕ} {buffer : List ℕ} {next : ℕ} {after : List ℕ} (i : ℕ) (text : List ℕ) → i < length text
+    → Put at (getD text i 0 ∷ []) buffer next after → Left start whole first at (drop i text) buffer
     → Left start whole first next (drop (i + 1) text) after
-left-byte {start} {whole} {first} at i text buffer next after h l e f =
-    left-after at (getD text i 0 ∷ []) (drop (i + 1) text) buffer next after (rw (add-one, ← drop-cons text i 0 h) l) e f
+left-byte i text h put l = left-after (getD text i 0 ∷ []) (drop (i + 1) text) put (rw (add-one, ← drop-cons text i 0 h) l)
 
 -- Two texts, one after the other.
-pub two-put : (at : ℕ) (x y buffer between after : List ℕ) (next end : ℕ) → next ≡ at + length x → between ≡ written at x buffer
-    → end ≡ next + length y → after ≡ written next y between → (end ≡ at + length (x ++ y)) × (after ≡ written at (x ++ y) buffer)
-two-put at x y buffer between after next end e f g k =
-    let l = length-append x y in
-    (omega arith, k ∙ ap (λ (p : ℕ). written p y between) e ∙ ap (λ (b : List ℕ). written (at + length x) y b) f ∙ written-append at x y buffer)
+pub put-two : {at : ℕ} {buffer : List ℕ} {next : ℕ} {between : List ℕ} {end : ℕ} {after : List ℕ} (x y : List ℕ)
+    → Put at x buffer next between → Put next y between end after → Put at (x ++ y) buffer end after
+put-two {at = at} {buffer = buffer} x y p q =
+    left-none (left-after y [] q (left-after x (y ++ []) p (subst (λ (l : List ℕ). Left at (x ++ y) buffer at (x ++ l) buffer) (sym (append-nil y)) (left-all at (x ++ y) buffer))))
 
 -- ---- items
 

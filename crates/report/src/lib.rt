@@ -3,12 +3,12 @@
 mod text;
 
 ghost use mathlib.Core.Path.{_≡_};
-ghost use mathlib.Core.List.{[], _∷_, _++_};
-ghost use Prim.Native.Nat.{_+_, _*_, _<_, _≤_, _^_};
+ghost use mathlib.Core.List.{_∷_, _++_};
+ghost use Prim.Native.Nat.{_+_, _<_, _≤_, _^_};
 ghost use lib.ListN.{length};
 ghost use Rattle.papers.specs.Field.{numbers};
 ghost use Rattle.report.specs.Decimal.{decimal};
-ghost use Rattle.report.specs.Text.{written, spaced};
+ghost use Rattle.report.specs.Text.{Put, spaced};
 ghost use Rattle.report.specs.Lines.{stateWord, paperWord, assumption, assumptions, headingLine, foundLine, lastLine, refusedLine};
 ghost use Rattle.report.specs.Lines.{sign as signOf};
 use papers::Paper;
@@ -34,7 +34,7 @@ pub fn write_heading(
     scenarios: u64,
 ) -> usize
     requires { ⌜ at < 2 ^ 32 ⌝ }
-    ensures { λ r. ⌜ (r ≡ at + length (headingLine atoms abducibles scenarios)) × (now (buffer .exit) ≡ written at (headingLine atoms abducibles scenarios) (now (buffer .entry))) ⌝ }
+    ensures { λ r. ⌜ Put at (headingLine atoms abducibles scenarios) (now (buffer .entry)) r (now (buffer .exit)) ⌝ }
 {
     let first = put_number(buffer, at, b"atoms ", atoms);
     let second = put_number(buffer, first, b" abducibles ", abducibles);
@@ -54,7 +54,7 @@ fn sign(digit: u32) -> u8
 // An abducible by its digit: nothing where it is open.
 fn put_assumption(buffer: &mut [u8], at: usize, atom: usize, digit: u32) -> usize
     requires { ⌜ at < 2 ^ 40 ⌝ }
-    ensures { λ r. ⌜ (r ≡ at + length (spaced (assumption atom digit))) × ((r ≤ at + 22) × (now (buffer .exit) ≡ written at (spaced (assumption atom digit)) (now (buffer .entry)))) ⌝ }
+    ensures { λ r. ⌜ Put at (spaced (assumption atom digit)) (now (buffer .entry)) r (now (buffer .exit)) × (r ≤ at + 22) ⌝ }
 {
     if digit == 0 {
         return at;
@@ -66,7 +66,7 @@ fn put_assumption(buffer: &mut [u8], at: usize, atom: usize, digit: u32) -> usiz
 // Each assumed or ruled-out abducible of a scenario.
 fn put_assumptions(buffer: &mut [u8], at: usize, scenario: u32, abducibles: &[u8]) -> usize
     requires { ⌜ (at < 2 ^ 33) × (length (now abducibles) ≤ 32) ⌝ }
-    ensures { λ r. ⌜ (r ≡ at + length (spaced (assumptions (numbers (now (abducibles .entry))) scenario))) × ((r ≤ at + 352) × (now (buffer .exit) ≡ written at (spaced (assumptions (numbers (now (abducibles .entry))) scenario)) (now (buffer .entry)))) ⌝ }
+    ensures { λ r. ⌜ Put at (spaced (assumptions (numbers (now (abducibles .entry))) scenario)) (now (buffer .entry)) r (now (buffer .exit)) × (r ≤ at + 352) ⌝ }
 {
     let count = abducibles.len() / 2;
     let mut end = at;
@@ -83,7 +83,7 @@ fn put_assumptions(buffer: &mut [u8], at: usize, scenario: u32, abducibles: &[u8
 // `found 1 1+`: the scenario, and the abducibles' numbers as they stand in a file.
 pub fn write_found(buffer: &mut [u8], at: usize, scenario: u32, abducibles: &[u8]) -> usize
     requires { ⌜ (at < 2 ^ 32) × (length (now abducibles) ≤ 32) ⌝ }
-    ensures { λ r. ⌜ (r ≡ at + length (foundLine scenario (numbers (now (abducibles .entry))))) × (now (buffer .exit) ≡ written at (foundLine scenario (numbers (now (abducibles .entry)))) (now (buffer .entry))) ⌝ }
+    ensures { λ r. ⌜ Put at (foundLine scenario (numbers (now (abducibles .entry)))) (now (buffer .entry)) r (now (buffer .exit)) ⌝ }
 {
     let first = put_number(buffer, at, b"found ", scenario as u64);
     let second = put_assumptions(buffer, first, scenario, abducibles);
@@ -92,7 +92,7 @@ pub fn write_found(buffer: &mut [u8], at: usize, scenario: u32, abducibles: &[u8
 
 fn put_state(buffer: &mut [u8], at: usize, state: State) -> usize
     requires { ⌜ at < 2 ^ 32 ⌝ }
-    ensures { λ r. ⌜ (r ≡ at + length (stateWord state)) × ((r ≤ at + 5) × (now (buffer .exit) ≡ written at (stateWord state) (now (buffer .entry)))) ⌝ }
+    ensures { λ r. ⌜ Put at (stateWord state) (now (buffer .entry)) r (now (buffer .exit)) × (r ≤ at + 5) ⌝ }
 {
     match state {
         State::Going => put_text(buffer, at, b"going"),
@@ -104,7 +104,7 @@ fn put_state(buffer: &mut [u8], at: usize, state: State) -> usize
 // `ended tried 3 rounds 3`
 pub fn write_last(buffer: &mut [u8], at: usize, state: State, tried: u64, rounds: u64) -> usize
     requires { ⌜ at < 2 ^ 32 ⌝ }
-    ensures { λ r. ⌜ (r ≡ at + length (lastLine state tried rounds)) × (now (buffer .exit) ≡ written at (lastLine state tried rounds) (now (buffer .entry))) ⌝ }
+    ensures { λ r. ⌜ Put at (lastLine state tried rounds) (now (buffer .entry)) r (now (buffer .exit)) ⌝ }
 {
     let first = put_state(buffer, at, state);
     let second = put_number(buffer, first, b" tried ", tried);
@@ -114,7 +114,7 @@ pub fn write_last(buffer: &mut [u8], at: usize, state: State, tried: u64, rounds
 
 fn put_place(buffer: &mut [u8], at: usize, paper: Paper, place: u64) -> usize
     requires { ⌜ at < 2 ^ 33 ⌝ }
-    ensures { λ r. ⌜ (r ≡ at + length (32 ∷ (paperWord paper ++ (32 ∷ decimal place)))) × ((r ≤ at + 27) × (now (buffer .exit) ≡ written at (32 ∷ (paperWord paper ++ (32 ∷ decimal place))) (now (buffer .entry)))) ⌝ }
+    ensures { λ r. ⌜ Put at (32 ∷ (paperWord paper ++ (32 ∷ decimal place))) (now (buffer .entry)) r (now (buffer .exit)) × (r ≤ at + 27) ⌝ }
 {
     match paper {
         Paper::File => put_number(buffer, at, b" file ", place),
@@ -125,7 +125,7 @@ fn put_place(buffer: &mut [u8], at: usize, paper: Paper, place: u64) -> usize
 // `refused 6 sheet 0`
 pub fn write_refused(buffer: &mut [u8], at: usize, refusal: Refusal) -> usize
     requires { ⌜ at < 2 ^ 32 ⌝ }
-    ensures { λ r. ⌜ (r ≡ at + length (refusedLine refusal)) × (now (buffer .exit) ≡ written at (refusedLine refusal) (now (buffer .entry))) ⌝ }
+    ensures { λ r. ⌜ Put at (refusedLine refusal) (now (buffer .entry)) r (now (buffer .exit)) ⌝ }
 {
     let number = refusal.number as u64;
     let paper = refusal.paper;

@@ -1,14 +1,13 @@
 // Text put into a buffer from a place on: bytes and decimal numbers.
-ghost use mathlib.Core.Path.{_≡_};
 ghost use mathlib.Core.List.{[], _∷_, _++_};
 ghost use Prim.Native.Nat.{_+_, _<_, _≤_, _^_};
 ghost use lib.ListN.{length};
 ghost use Rattle.report.specs.Decimal.{decimal};
-ghost use Rattle.report.specs.Text.{written};
+ghost use Rattle.report.specs.Text.{Put};
 
 pub(crate) fn put_byte(buffer: &mut [u8], at: usize, byte: u8) -> usize
     requires { ⌜ at < 2 ^ 63 ⌝ }
-    ensures { λ r. ⌜ (r ≡ at + 1) × (now (buffer .exit) ≡ written at (byte ∷ []) (now (buffer .entry))) ⌝ }
+    ensures { λ r. ⌜ Put at (byte ∷ []) (now (buffer .entry)) r (now (buffer .exit)) ⌝ }
 {
     if at < buffer.len() {
         buffer[at] = byte;
@@ -18,7 +17,7 @@ pub(crate) fn put_byte(buffer: &mut [u8], at: usize, byte: u8) -> usize
 
 pub(crate) fn put_text(buffer: &mut [u8], at: usize, text: &[u8]) -> usize
     requires { ⌜ at + length (now text) < 2 ^ 63 ⌝ }
-    ensures { λ r. ⌜ (r ≡ at + length (now (text .entry))) × (now (buffer .exit) ≡ written at (now (text .entry)) (now (buffer .entry))) ⌝ }
+    ensures { λ r. ⌜ Put at (now (text .entry)) (now (buffer .entry)) r (now (buffer .exit)) ⌝ }
 {
     let mut end = at;
     let mut i: usize = 0;
@@ -32,7 +31,7 @@ pub(crate) fn put_text(buffer: &mut [u8], at: usize, text: &[u8]) -> usize
 // A number in decimal, without leading zeros.
 pub(crate) fn put_decimal(buffer: &mut [u8], at: usize, n: u64) -> usize
     requires { ⌜ at < 2 ^ 62 ⌝ }
-    ensures { λ r. ⌜ (r ≡ at + length (decimal n)) × ((r ≤ at + 20) × (now (buffer .exit) ≡ written at (decimal n) (now (buffer .entry)))) ⌝ }
+    ensures { λ r. ⌜ Put at (decimal n) (now (buffer .entry)) r (now (buffer .exit)) × (r ≤ at + 20) ⌝ }
 {
     if n < 10 {
         return put_byte(buffer, at, 48 + n as u8);
@@ -44,7 +43,7 @@ pub(crate) fn put_decimal(buffer: &mut [u8], at: usize, n: u64) -> usize
 // A text, then a number.
 pub(crate) fn put_number(buffer: &mut [u8], at: usize, text: &[u8], n: u64) -> usize
     requires { ⌜ at + length (now text) < 2 ^ 62 ⌝ }
-    ensures { λ r. ⌜ (r ≡ at + length (now (text .entry) ++ decimal n)) × ((r ≤ at + length (now (text .entry)) + 20) × (now (buffer .exit) ≡ written at (now (text .entry) ++ decimal n) (now (buffer .entry)))) ⌝ }
+    ensures { λ r. ⌜ Put at (now (text .entry) ++ decimal n) (now (buffer .entry)) r (now (buffer .exit)) × (r ≤ at + length (now (text .entry)) + 20) ⌝ }
 {
     let end = put_text(buffer, at, text);
     put_decimal(buffer, end, n)

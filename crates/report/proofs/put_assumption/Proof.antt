@@ -1,14 +1,12 @@
 -- `report::put_assumption` meets its contract.
 -- Assumes nothing.
-use mathlib.Core.Path.{_≡_, refl, ap, sym, _∙_}
-use mathlib.Core.List.{List, [], _∷_, _++_}
-use Prim.Native.Nat.{ℕ}
+use mathlib.Core.Path.{refl}
+use mathlib.Core.List.{[], _∷_}
 use native.Mathlib.Omega.{arith}
-use denote.Ref.{now}
 use Rattle.report.specs.Decimal.{decimal}
 use Rattle.report.specs.Text.{written}
 use Rattle.report.specs.Lines.{sign}
-use Rattle.report.proofs.Putting.{two-put}
+use Rattle.report.proofs.Putting.{put-two}
 use Rattle.report.proofs.Items.{item-open, item-signed}
 use borrow.Author.Needs.{needs}
 use Rattle.report.proofs.put_assumption.Statement.{statement}
@@ -18,7 +16,7 @@ returns : tie.Need-returns
 unfolding written
 returns c =
     let a = c .before .before .args in
-    rw (item-open (a .atom) (a .digit) (c .if1 .taken)) (omega arith, (omega arith, refl))
+    rw (item-open (a .atom) (a .digit) (c .if1 .taken)) (record { place = omega arith; bytes = refl }, omega arith)
 
 slice-aggregate-put-number : tie.Need-slice-aggregate-put-number
 slice-aggregate-put-number c = search needs
@@ -40,9 +38,9 @@ returns-2 c =
     let a = c .before .before .before .before .before .before .before .before .before .before .before .before .args in
     let number = c .before .before .before .before .before .before .before .put-number in
     let put = c .before .before .put-byte in
-    let e = put .ensures .1 ∙ ap (λ (x : ℕ). written (number .result) (x ∷ []) (number .last .0)) (c .before .before .before .sign .ensures) in
-    let p = two-put (a .at) (32 ∷ decimal (a .atom)) (sign (a .digit) ∷ []) (now (a .buffer)) (number .last .0) (put .last .0) (number .result) (put .result) (number .ensures .0) (number .ensures .1 .1) (put .ensures .0) e in
-    rw (item-signed (a .atom) (a .digit) (c .before .before .before .before .before .before .before .before .before .before .if1 .left)) (p .0, (omega arith, p .1))
+    let signed = rw (c .before .before .before .sign .ensures) at (put .ensures) in
+    let p = put-two (32 ∷ decimal (a .atom)) (sign (a .digit) ∷ []) (number .ensures .0) signed in
+    rw (item-signed (a .atom) (a .digit) (c .before .before .before .before .before .before .before .before .before .before .if1 .left)) (p, let x = number .ensures .1 in let y = put .ensures .place in omega arith)
 
 pub put-assumption-spec : {M : Type 1} → statement M
 put-assumption-spec =

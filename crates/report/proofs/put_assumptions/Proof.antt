@@ -49,8 +49,8 @@ loop-again c =
     let put = c .before .before .put-assumption in
     let atom = c .before .before .before .number-at in
     let next = items-next (now (a .abducibles)) (l .i) (l .rest) (atom .result) (c .before .before .before .before .before .loop-test .taken) (atom .ensures .0) in (
-      left-after (l .end) (spaced (assumption (atom .result) (l .rest % 3))) (spaced (assumptions (numbers (drop (2 * (l .i + 1)) (now (a .abducibles)))) (l .rest / 3))) (l .buffer) (put .result) (put .last .0) (rw next at (l .inv .0)) (put .ensures .0) (put .ensures .1 .1),
-      (omega arith, (omega arith, put .kept .0 ∙ l .inv .1 .1 .1)),
+      left-after (spaced (assumption (atom .result) (l .rest % 3))) (spaced (assumptions (numbers (drop (2 * (l .i + 1)) (now (a .abducibles)))) (l .rest / 3))) (put .ensures .0) (rw next at (l .inv .0)),
+      (omega arith, (let p = put .ensures .1 in omega arith, put .kept .0 ∙ l .inv .1 .1 .1)),
     )
 
 same-length : tie.Need-same-length Inv-loop μ-loop
@@ -60,8 +60,7 @@ returns : tie.Need-returns Inv-loop μ-loop
 returns c =
     let a = c .before .before .before .before .args in
     let l = c .before .loop in
-    let p = left-none (l .end) (l .buffer) (rw (items-none (now (a .abducibles)) (l .i) (l .rest) (c .loop-test .left)) at (l .inv .0)) in
-    (p .0, (omega arith, p .1))
+    (left-none (rw (items-none (now (a .abducibles)) (l .i) (l .rest) (c .loop-test .left)) at (l .inv .0)), omega arith)
 
 pub put-assumptions-spec : {M : Type 1} → statement M
 put-assumptions-spec =

@@ -31,7 +31,7 @@ returns : tie.Need-returns
 unfolding paperWord
 returns c =
     let put = c .before .before .put-number in
-    rw (c .before .before .before .before .before .enum-told .given .1) (put .ensures .0, (omega arith, put .ensures .1 .1))
+    rw (c .before .before .before .before .before .enum-told .given .1) (put .ensures .0, let p = put .ensures .1 in omega arith)
 
 same-length-2 : tie.Need-same-length-2
 same-length-2 c = search needs
@@ -40,7 +40,7 @@ returns-2 : tie.Need-returns-2
 unfolding paperWord
 returns-2 c =
     let put = c .before .before .put-number2 in
-    rw (c .before .before .before .before .before .enum-told2 .given .1) (put .ensures .0, (omega arith, put .ensures .1 .1))
+    rw (c .before .before .before .before .before .enum-told2 .given .1) (put .ensures .0, let p = put .ensures .1 in omega arith)
 
 pub put-place-spec : {M : Type 1} → statement M
 put-place-spec =

@@ -39,9 +39,8 @@ same-length c = search needs
 returns : tie.Need-returns
 unfolding stateWord
 returns c =
-    let a = c .before .before .before .before .before .before .before .before .args in
     let put = c .before .before .put-text in
-    rw (c .before .before .before .before .before .enum-told .given .1) (put .ensures .0, (omega arith, put .ensures .1))
+    rw (c .before .before .before .before .before .enum-told .given .1) (put .ensures, let p = put .ensures .place in omega arith)
 
 same-length-2 : tie.Need-same-length-2
 same-length-2 c = search needs
@@ -49,9 +48,8 @@ same-length-2 c = search needs
 returns-2 : tie.Need-returns-2
 unfolding stateWord
 returns-2 c =
-    let a = c .before .before .before .before .before .before .before .before .args in
     let put = c .before .before .put-text2 in
-    rw (c .before .before .before .before .before .enum-told2 .given .1) (put .ensures .0, (omega arith, put .ensures .1))
+    rw (c .before .before .before .before .before .enum-told2 .given .1) (put .ensures, let p = put .ensures .place in omega arith)
 
 same-length-3 : tie.Need-same-length-3
 same-length-3 c = search needs
@@ -59,9 +57,8 @@ same-length-3 c = search needs
 returns-3 : tie.Need-returns-3
 unfolding stateWord
 returns-3 c =
-    let a = c .before .before .before .before .before .before .before .before .args in
     let put = c .before .before .put-text3 in
-    rw (c .before .before .before .before .before .enum-told3 .given .1) (put .ensures .0, (omega arith, put .ensures .1))
+    rw (c .before .before .before .before .before .enum-told3 .given .1) (put .ensures, let p = put .ensures .place in omega arith)
 
 pub put-state-spec : {M : Type 1} → statement M
 put-state-spec =

@@ -30,16 +30,12 @@ returns : tie.Need-returns
 unfolding foundLine further
 returns c =
     let a = c .before .before .before .before .before .before .before .before .before .before .before .before .before .before .before .args in
-    let first = c .before .before .before .before .before .before .before .before .before .before .put-number in
-    let second = c .before .before .before .before .before .before .put-assumptions in
-    let end = c .before .before .put-byte in
     let n = decimal (a .scenario) in
     let items = assumptions (numbers (now (a .abducibles))) (a .scenario) in
     let l = left-line (a .at) foundWord (n ∷ items) (now (a .buffer)) in
-    let m = left-after (a .at) (foundWord ++ 32 ∷ n) (further items) (now (a .buffer)) (first .result) (first .last .0) l (first .ensures .0) (first .ensures .1 .1) in
-    let o = left-after (first .result) (spaced items) (10 ∷ []) (first .last .0) (second .result) (second .last .0) (rw (← spaced-further items) at m) (second .ensures .0) (second .ensures .1 .1) in
-    let q = left-after (second .result) (10 ∷ []) [] (second .last .0) (end .result) (end .last .0) o (end .ensures .0) (end .ensures .1) in
-    left-none (end .result) (end .last .0) q
+    let m = left-after (foundWord ++ 32 ∷ n) (further items) (c .before .before .before .before .before .before .before .before .before .before .put-number .ensures .0) l in
+    let o = left-after (spaced items) (10 ∷ []) (c .before .before .before .before .before .before .put-assumptions .ensures .0) (rw (← spaced-further items) at m) in
+    left-none (left-after (10 ∷ []) [] (c .before .before .put-byte .ensures) o)
 
 pub write-found-spec : {M : Type 1} → statement M
 write-found-spec =

@@ -37,19 +37,14 @@ returns : tie.Need-returns
 unfolding headingLine further
 returns c =
     let a = c .before .before .before .before .before .before .before .before .before .before .before .before .before .before .before .before .before .before .before .before .args in
-    let first = c .before .before .before .before .before .before .before .before .before .before .before .before .before .before .before .before .put-number in
-    let second = c .before .before .before .before .before .before .before .before .before .before .before .put-number2 in
-    let third = c .before .before .before .before .before .before .put-number3 in
-    let end = c .before .before .put-byte in
     let n = decimal (a .atoms) in
     let k = decimal (a .abducibles) in
     let s = decimal (a .scenarios) in
     let l = left-line (a .at) atomsWord (n ∷ abduciblesWord ∷ k ∷ scenariosWord ∷ s ∷ []) (now (a .buffer)) in
-    let m = left-after (a .at) (atomsWord ++ 32 ∷ n) (further (abduciblesWord ∷ k ∷ scenariosWord ∷ s ∷ [])) (now (a .buffer)) (first .result) (first .last .0) l (first .ensures .0) (first .ensures .1 .1) in
-    let o = left-after (first .result) (32 ∷ abduciblesWord ++ 32 ∷ k) (further (scenariosWord ∷ s ∷ [])) (first .last .0) (second .result) (second .last .0) m (second .ensures .0) (second .ensures .1 .1) in
-    let p = left-after (second .result) (32 ∷ scenariosWord ++ 32 ∷ s) (further []) (second .last .0) (third .result) (third .last .0) o (third .ensures .0) (third .ensures .1 .1) in
-    let q = left-after (third .result) (10 ∷ []) [] (third .last .0) (end .result) (end .last .0) p (end .ensures .0) (end .ensures .1) in
-    left-none (end .result) (end .last .0) q
+    let m = left-after (atomsWord ++ 32 ∷ n) (further (abduciblesWord ∷ k ∷ scenariosWord ∷ s ∷ [])) (c .before .before .before .before .before .before .before .before .before .before .before .before .before .before .before .before .put-number .ensures .0) l in
+    let o = left-after (32 ∷ abduciblesWord ++ 32 ∷ k) (further (scenariosWord ∷ s ∷ [])) (c .before .before .before .before .before .before .before .before .before .before .before .put-number2 .ensures .0) m in
+    let p = left-after (32 ∷ scenariosWord ++ 32 ∷ s) (further []) (c .before .before .before .before .before .before .put-number3 .ensures .0) o in
+    left-none (left-after (10 ∷ []) [] (c .before .before .put-byte .ensures) p)
 
 pub write-heading-spec : {M : Type 1} → statement M
 write-heading-spec =

@@ -34,18 +34,13 @@ returns : tie.Need-returns
 unfolding lastLine further
 returns c =
     let a = c .before .before .before .before .before .before .before .before .before .before .before .before .before .before .before .before .before .before .before .args in
-    let first = c .before .before .before .before .before .before .before .before .before .before .before .before .before .before .before .before .put-state in
-    let second = c .before .before .before .before .before .before .before .before .before .before .before .put-number in
-    let third = c .before .before .before .before .before .before .put-number2 in
-    let end = c .before .before .put-byte in
     let t = decimal (a .tried) in
     let r = decimal (a .rounds) in
     let l = left-line (a .at) (stateWord (a .state)) (triedWord ∷ t ∷ roundsWord ∷ r ∷ []) (now (a .buffer)) in
-    let m = left-after (a .at) (stateWord (a .state)) (further (triedWord ∷ t ∷ roundsWord ∷ r ∷ [])) (now (a .buffer)) (first .result) (first .last .0) l (first .ensures .0) (first .ensures .1 .1) in
-    let o = left-after (first .result) (32 ∷ triedWord ++ 32 ∷ t) (further (roundsWord ∷ r ∷ [])) (first .last .0) (second .result) (second .last .0) m (second .ensures .0) (second .ensures .1 .1) in
-    let p = left-after (second .result) (32 ∷ roundsWord ++ 32 ∷ r) (further []) (second .last .0) (third .result) (third .last .0) o (third .ensures .0) (third .ensures .1 .1) in
-    let q = left-after (third .result) (10 ∷ []) [] (third .last .0) (end .result) (end .last .0) p (end .ensures .0) (end .ensures .1) in
-    left-none (end .result) (end .last .0) q
+    let m = left-after (stateWord (a .state)) (further (triedWord ∷ t ∷ roundsWord ∷ r ∷ [])) (c .before .before .before .before .before .before .before .before .before .before .before .before .before .before .before .before .put-state .ensures .0) l in
+    let o = left-after (32 ∷ triedWord ++ 32 ∷ t) (further (roundsWord ∷ r ∷ [])) (c .before .before .before .before .before .before .before .before .before .before .before .put-number .ensures .0) m in
+    let p = left-after (32 ∷ roundsWord ++ 32 ∷ r) (further []) (c .before .before .before .before .before .before .put-number2 .ensures .0) o in
+    left-none (left-after (10 ∷ []) [] (c .before .before .put-byte .ensures) p)
 
 pub write-last-spec : {M : Type 1} → statement M
 write-last-spec =

@@ -31,17 +31,13 @@ returns : tie.Need-returns
 unfolding refusedLine further
 returns c =
     let a = c .before .before .before .before .before .before .before .before .before .before .before .before .before .before .before .args in
-    let first = c .before .before .before .before .before .before .before .before .before .before .put-number in
-    let second = c .before .before .before .before .before .before .put-place in
-    let end = c .before .before .put-byte in
     let n = decimal (a .refusal .number) in
     let w = paperWord (a .refusal .paper) in
     let p = decimal (a .refusal .place) in
     let l = left-line (a .at) refusedWord (n ∷ w ∷ p ∷ []) (now (a .buffer)) in
-    let m = left-after (a .at) (refusedWord ++ 32 ∷ n) (further (w ∷ p ∷ [])) (now (a .buffer)) (first .result) (first .last .0) l (first .ensures .0) (first .ensures .1 .1) in
-    let o = left-after (first .result) (32 ∷ (w ++ 32 ∷ p)) (further []) (first .last .0) (second .result) (second .last .0) (rw (← append-assoc w (32 ∷ p) (10 ∷ [])) at m) (second .ensures .0) (second .ensures .1 .1) in
-    let q = left-after (second .result) (10 ∷ []) [] (second .last .0) (end .result) (end .last .0) o (end .ensures .0) (end .ensures .1) in
-    left-none (end .result) (end .last .0) q
+    let m = left-after (refusedWord ++ 32 ∷ n) (further (w ∷ p ∷ [])) (c .before .before .before .before .before .before .before .before .before .before .put-number .ensures .0) l in
+    let o = left-after (32 ∷ (w ++ 32 ∷ p)) (further []) (c .before .before .before .before .before .before .put-place .ensures .0) (rw (← append-assoc w (32 ∷ p) (10 ∷ [])) at m) in
+    left-none (left-after (10 ∷ []) [] (c .before .before .put-byte .ensures) o)
 
 pub write-refused-spec : {M : Type 1} → statement M
 write-refused-spec =

@@ -3,7 +3,6 @@
 use mathlib.Core.Path.{_∙_}
 use Prim.Native.Nat.{ℕ, _<_}
 use native.Mathlib.Omega.{arith}
-use denote.Ref.{now}
 use Rattle.report.proofs.DecimalLaws.{one-put, more-put}
 use borrow.Fn.Kinds.{In}
 use borrow.Fn.PlainCycle.{Measures, is, falls, and}
@@ -63,10 +62,7 @@ put-decimal-returns : (t : ℕ) → put-decimal-lts.Need-returns (
   put-decimal-below t,
   put-decimal.Post,
 ) (put-decimal-at t) put-decimal.Post
-put-decimal-returns t c =
-    let a = c .before .before .before .before .before .before .args in
-    let put = c .before .before .put-byte in
-    one-put (a .at) (a .n) (now (a .buffer)) (put .last .0) (put .result) (c .before .before .before .before .if1 .taken) (put .ensures .0) (put .ensures .1)
+put-decimal-returns t c = one-put (c .before .before .before .before .before .before .args .n) (c .before .before .before .before .if1 .taken) (c .before .before .put-byte .ensures)
 
 put-decimal-put-decimal-requires : (t : ℕ) → put-decimal-lts.Need-put-decimal-requires (
   put-byte-reads.Asked,
@@ -116,11 +112,7 @@ put-decimal-returns-2 : (t : ℕ) → put-decimal-lts.Need-returns-2 (
 ) (put-decimal-at t) put-decimal.Post
 put-decimal-returns-2 t c =
     let start = c .before .before .before .before .before .before .before .before .before .before in
-    let a = start .args in
-    let higher = c .before .before .before .before .before .before .put-decimal in
-    let put = c .before .before .put-byte2 in
-    more-put (a .at) (a .n) (now (a .buffer)) (higher .last .0) (put .last .0) (higher .result) (put .result) (start .fits .n .fits) (c .before .before .before .before .before .before .before .before .if1 .left)
-    (higher .ensures .0) (higher .ensures .1 .1) (put .ensures .0) (put .ensures .1)
+    more-put (start .args .n) (start .fits .n .fits) (c .before .before .before .before .before .before .before .before .if1 .left) (c .before .before .before .before .before .before .put-decimal .ensures .0) (c .before .before .put-byte2 .ensures)
 
 pub +put-decimal-spec : {M : Type 1} → statement M
 +put-decimal-spec = close μ-put-decimal λ t. put-decimal-lts.spec (

@@ -27,7 +27,7 @@ same-length : tie.Need-same-length
 same-length c = ap length (put c) ∙ written-length (c .before .args .at) (c .before .args .byte ∷ []) (now (c .before .args .buffer))
 
 returns : tie.Need-returns
-returns c = (refl, put c)
+returns c = record { place = refl; bytes = put c }
 
 pub put-byte-spec : {M : Type 1} → statement M
 put-byte-spec = tie.close (tie.spec slice-write-buffer add-result same-length returns)

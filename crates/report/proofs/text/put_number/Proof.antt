@@ -3,7 +3,7 @@
 use native.Mathlib.Omega.{arith}
 use denote.Ref.{now}
 use Rattle.report.specs.Decimal.{decimal}
-use Rattle.report.proofs.Putting.{two-put}
+use Rattle.report.proofs.Putting.{put-two}
 use borrow.Author.Needs.{needs}
 use Rattle.report.proofs.text.put_number.Statement.{statement}
 use Rattle.report.proofs.text.put_number.Tie as tie
@@ -22,8 +22,7 @@ returns c =
     let a = c .before .before .before .before .before .before .before .before .before .before .args in
     let text = c .before .before .before .before .before .before .put-text in
     let number = c .before .before .put-decimal in
-    let p = two-put (a .at) (now (a .text)) (decimal (a .n)) (now (a .buffer)) (text .last .0) (number .last .0) (text .result) (number .result) (text .ensures .0) (text .ensures .1) (number .ensures .0) (number .ensures .1 .1) in
-    (p .0, (omega arith, p .1))
+    (put-two (now (a .text)) (decimal (a .n)) (text .ensures) (number .ensures .0), let p = text .ensures .place in let q = number .ensures .1 in omega arith)
 
 pub put-number-spec : {M : Type 1} → statement M
 put-number-spec = tie.close (tie.spec put-text-requires put-decimal-requires same-length returns)

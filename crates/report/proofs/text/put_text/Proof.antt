@@ -34,10 +34,10 @@ loop-less c = omega arith
 loop-again : tie.Need-loop-again Inv-loop μ-loop
 loop-again c =
     let put = c .before .before .put-byte in
-    let now-at = c .before .before .before .before .before .before .loop in
+    let l = c .before .before .before .before .before .before .loop in
     let a = c .before .before .before .before .before .before .before .before .before .args in (
-      left-byte (now-at .end) (now-at .i) (now (a .text)) (now-at .buffer) (put .result) (put .last .0) (c .before .before .before .before .before .loop-test .taken) (now-at .inv .0) (put .ensures .0) (put .ensures .1),
-      (omega arith, (omega arith, put .kept .0 ∙ now-at .inv .1 .1 .1)),
+      left-byte (l .i) (now (a .text)) (c .before .before .before .before .before .loop-test .taken) (put .ensures) (l .inv .0),
+      (omega arith, (omega arith, put .kept .0 ∙ l .inv .1 .1 .1)),
     )
 
 same-length : tie.Need-same-length Inv-loop μ-loop
@@ -48,7 +48,7 @@ returns c =
     let a = c .before .before .before .before .args in
     let l = c .before .loop in
     let e : drop (l .i) (now (a .text)) ≡ [] = drop-of-length-le (now (a .text)) {i = l .i} (c .loop-test .left) in
-    left-none (l .end) (l .buffer) (rw e at (l .inv .0))
+    left-none (rw e at (l .inv .0))
 
 pub put-text-spec : {M : Type 1} → statement M
 put-text-spec =
