@@ -1,8 +1,9 @@
 /*
  * The fault finder's C boundary.
  *
- * Document 01 says what a file, a sheet, a dual, a refusal and its place are.
- * This header says only how they cross the boundary.
+ * Document 01 says what a file, a sheet, a dual, a refusal and its place, a
+ * scenario, a model, a record and a list are. This header says only how they
+ * cross the boundary.
  *
  * Common to all functions:
  *
@@ -12,12 +13,15 @@
  *   be above PTRDIFF_MAX.
  * - A buffer is lent as a pointer to its first byte and its length in bytes,
  *   with the same bounds on both. The bytes must be readable and writable for
- *   that length and overlap no paper. A call that is refused leaves them all
- *   as they were.
+ *   that length and overlap no paper and no other buffer. A call that is
+ *   refused leaves them all as they were.
+ * - The list is lent as a buffer is, save that it holds 32-bit words, aligned
+ *   as uint32_t, and that its length is their count; in bytes it must not be
+ *   above PTRDIFF_MAX.
  * - `out` is an array of eight 64-bit words of the caller's, aligned as
- *   uint64_t, that overlaps no paper and no buffer. Every call writes all
- *   eight, whatever they held before. A slot that has no meaning in an answer
- *   is 0.
+ *   uint64_t, that overlaps no paper, no buffer and no list. Every call writes
+ *   all eight, whatever they held before. A slot that has no meaning in an
+ *   answer is 0.
  * - Nothing is kept after the call returns.
  */
 
@@ -67,6 +71,70 @@ void finder_rest(const uint8_t *file, size_t file_len,
 void finder_write_dual(const uint8_t *file, size_t file_len,
                        uint8_t *dual, size_t dual_len,
                        uint64_t out[8]);
+
+/*
+ * Reads both papers, the file first, and judges the scenario. Writes the dual
+ * of the file to the start of the dual buffer and the model to the start of
+ * the model buffer: a byte for each of the N judged literals, 0 undefined,
+ * 1 true, 2 false, 3 both.
+ *
+ *   slot  paper refused            11, 12 or 13   scenario judged
+ *   0     the refusal number,      11 short dual  0
+ *         1 to 10                  12 short model
+ *                                  13 no scenario
+ *   1     the refused paper:       0              0
+ *         0 file, 1 sheet
+ *   2     the place in that paper  0              0
+ *   3     0                        0              the verdict: 1 where the
+ *                                                 scenario is an explanation,
+ *                                                 else 0
+ *   4     0                        0              the round count
+ *   5-7   0                        0              0
+ *
+ * The tests come in the order of their numbers. Where slot 0 is 0, the bytes
+ * of both buffers beyond the dual and beyond the model are as they were. N is
+ * one more than twice the atom count, so no model is longer than 513 bytes.
+ */
+void finder_judge(const uint8_t *file, size_t file_len,
+                  const uint8_t *sheet, size_t sheet_len,
+                  uint32_t scenario,
+                  uint8_t *dual, size_t dual_len,
+                  uint8_t *model, size_t model_len,
+                  uint64_t out[8]);
+
+/*
+ * Reads both papers, the file first, and goes on with the search of the record
+ * (position and found) and of the list for as many scenarios as the allowance
+ * lets it try. Writes the dual of the file to the start of the dual buffer and
+ * adds what it finds to the list.
+ *
+ *   slot  paper refused            11 or 14           search continued
+ *   0     the refusal number,      11 short dual      0
+ *         1 to 10                  14 spoilt search
+ *   1     the refused paper:       0                  0
+ *         0 file, 1 sheet
+ *   2     the place in that paper  0                  0
+ *   3     the position, as given   as given           the new position
+ *   4     found, as given          as given           the new found
+ *   5     0                        0                  how many were tried
+ *   6     0                        0                  their rounds added up
+ *   7     0                        0                  the state: 0 going,
+ *                                                     1 full, 2 ended
+ *
+ * The tests come in the order of their numbers. The record of a fresh search
+ * is position 0 and found 0, and its list may hold anything. Slots 3 and 4 are
+ * the record for the next call, whether this one was refused or not. Where
+ * slot 0 is 0, the bytes of the dual buffer beyond the dual are as they were,
+ * and so is every entry of the list but those from the old found up to the new
+ * one.
+ */
+void finder_continue(const uint8_t *file, size_t file_len,
+                     const uint8_t *sheet, size_t sheet_len,
+                     uint8_t *dual, size_t dual_len,
+                     uint32_t *list, size_t list_len,
+                     uint32_t position, uint32_t found,
+                     uint32_t allowance,
+                     uint64_t out[8]);
 
 #ifdef __cplusplus
 }

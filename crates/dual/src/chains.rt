@@ -24,7 +24,7 @@ pub(crate) fn fold_chains(file: &[u8], contents: Contents, places: &[usize; 1280
     let mut fold = rules.count + integrity.count;
     while 0 < fold {
         fold -= 1;
-        let head = papers::folds::head_of(file, contents, places, fold);
+        let head = folds::head_of(file, contents, places, fold);
         next[fold] = first[head];
         first[head] = fold;
     }

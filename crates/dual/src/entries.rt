@@ -30,7 +30,7 @@ fn rules_length(
     let mut fold = first[o];
     let mut total: usize = 5;
     while fold < 1280 {
-        let body = papers::folds::body_of(file, contents, places, fold);
+        let body = folds::body_of(file, contents, places, fold);
         if body.len() == 0 {
             return 0;
         }
@@ -53,7 +53,7 @@ pub(crate) fn entry_length(
     ensures { λ r. ⌜ (r ≡ cond (hasEntry (programIn (now (file .entry))) o) (5 + rulesLength (allRules (programIn (now (file .entry)))) o) 0) × (r < 65536) ⌝ }
 {
     let end = 12 + 2 * contents.abducibles;
-    if papers::content::is_among(&file[12..end], o / 2) {
+    if fields::content::is_among(&file[12..end], o / 2) {
         return 0;
     }
     rules_length(file, contents, places, first, next, o)
@@ -98,7 +98,7 @@ fn write_entry(
     let mut end = write_literal(buffer, next, start, o);
     let mut fold = start;
     while fold < 1280 {
-        let body = papers::folds::body_of(file, contents, places, fold);
+        let body = folds::body_of(file, contents, places, fold);
         let size = write_fold(&mut buffer[end..], fold, body);
         end += size;
         fold = next[fold];

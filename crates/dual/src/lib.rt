@@ -53,13 +53,13 @@ pub fn write_accepted(
 pub fn write_dual(file: &[u8], dual: &mut [u8]) -> DualWritten
     ensures { λ r. ⌜ (r ≡ dualAnswer (readFile (now (file .entry))) (length (now (dual .entry)))) × (now (dual .exit) ≡ dualAfter (readFile (now (file .entry))) (now (dual .entry))) ⌝ }
 {
-    let read = papers::read_file(file);
+    let read = reading::read_file(file);
     let FileRead::Accepted(contents) = read else {
         let FileRead::Refused(refusal) = read else {
             return DualWritten::Short;
         };
         return DualWritten::Refused(refusal);
     };
-    let places = papers::folds::fold_places(file, contents);
+    let places = folds::fold_places(file, contents);
     write_accepted(file, contents, &places, dual, true)
 }

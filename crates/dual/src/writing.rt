@@ -8,8 +8,8 @@ ghost use Rattle.papers.specs.Field.{numbers};
 ghost use Rattle.papers.specs.Encoding.{encodeNumbers, encodeField};
 ghost use Rattle.dual.specs.Answers.{filled};
 ghost use Rattle.dual.specs.Chains.{Chain, foldsAt};
+use fields::field::number_at;
 use literals::Literal;
-use papers::field::number_at;
 
 // A two-byte number at a place, high byte first.
 fn put_number(buffer: &mut [u8], at: usize, value: usize)

@@ -11,26 +11,33 @@ use Rattle.papers.specs.Outcome.{Outcome, accepted, refused}
 use Rattle.papers.specs.Answers.{restFrom}
 use Rattle.dual.specs.declared.DualWritten.{DualWritten}
 use Rattle.dual.specs.declared.DualWritten.the-variants.{Length, Short, Refused}
-use Rattle.model.specs.declared.Judged.{Judged}
-use Rattle.model.specs.declared.Judged.the-variants as judging
+use Rattle.judging.specs.declared.Judged.{Judged}
+use Rattle.judging.specs.declared.Judged.the-variants as judging
+use Rattle.search.specs.declared.Record.{Record}
+use Rattle.search.specs.declared.Report.{Report}
+use Rattle.search.specs.declared.State.{State}
+use Rattle.search.specs.declared.State.the-variants.{Going, Full, Ended}
+use Rattle.search.specs.declared.Continued.{Continued}
+use Rattle.search.specs.declared.Continued.the-variants as continuing
 
 abbrev pub paperNumber : Paper → ℕ
 paperNumber File = 0
 paperNumber Sheet = 1
 
--- A refusal of a paper, and one more word: the length of the paper's rest.
-abbrev pub refusalWords : Refusal → ℕ → List ℕ
-refusalWords r rest = r .number ∷ paperNumber (r .paper) ∷ r .place ∷ rest ∷ 0 ∷ 0 ∷ 0 ∷ 0 ∷ []
+-- A refusal of a paper, and what words 3 and 4 hold.
+abbrev pub refusalWords : Refusal → ℕ → ℕ → List ℕ
+refusalWords r third fourth = r .number ∷ paperNumber (r .paper) ∷ r .place ∷ third ∷ fourth ∷ 0 ∷ 0 ∷ 0 ∷ []
 
+-- The rest of a refused paper: word 3 is its length.
 abbrev pub restWords : {A : Type 0} → Outcome A → List ℕ → List ℕ → List ℕ
 restWords (accepted a) file sheet = 0 ∷ 0 ∷ 0 ∷ 0 ∷ 0 ∷ 0 ∷ 0 ∷ 0 ∷ []
-restWords (refused r) file sheet = refusalWords r (length (restFrom (r .paper) (r .place) file sheet))
+restWords (refused r) file sheet = refusalWords r (length (restFrom (r .paper) (r .place) file sheet)) 0
 
 -- Writing the dual: word 3 is its length; 11 names no paper and no place.
 abbrev pub dualWords : DualWritten → List ℕ
 dualWords (Length n) = 0 ∷ 0 ∷ 0 ∷ n ∷ 0 ∷ 0 ∷ 0 ∷ 0 ∷ []
 dualWords Short = 11 ∷ 0 ∷ 0 ∷ 0 ∷ 0 ∷ 0 ∷ 0 ∷ 0 ∷ []
-dualWords (Refused r) = refusalWords r 0
+dualWords (Refused r) = refusalWords r 0 0
 
 abbrev pub flagNumber : Bool → ℕ
 flagNumber true = 1
@@ -42,4 +49,22 @@ judgedWords (judging.Verdict explains rounds) = 0 ∷ 0 ∷ 0 ∷ flagNumber exp
 judgedWords judging.ShortDual = 11 ∷ 0 ∷ 0 ∷ 0 ∷ 0 ∷ 0 ∷ 0 ∷ 0 ∷ []
 judgedWords judging.ShortModel = 12 ∷ 0 ∷ 0 ∷ 0 ∷ 0 ∷ 0 ∷ 0 ∷ 0 ∷ []
 judgedWords judging.NoScenario = 13 ∷ 0 ∷ 0 ∷ 0 ∷ 0 ∷ 0 ∷ 0 ∷ 0 ∷ []
-judgedWords (judging.Refused r) = refusalWords r 0
+judgedWords (judging.Refused r) = refusalWords r 0 0
+
+abbrev pub stateNumber : State → ℕ
+stateNumber Going = 0
+stateNumber Full = 1
+stateNumber Ended = 2
+
+abbrev pub recordOf : ℕ → ℕ → Record
+recordOf position found = record { position = position; found = found }
+
+abbrev pub reportWords : Report → List ℕ
+reportWords x = 0 ∷ 0 ∷ 0 ∷ x .new .position ∷ x .new .found ∷ x .tried ∷ x .rounds ∷ stateNumber (x .state) ∷ []
+
+-- Continuing: words 3 and 4 are the record, the one given where the call is refused; 5 the scenarios tried, 6 their rounds, 7 the state.
+abbrev pub continuedWords : Record → Continued → List ℕ
+continuedWords from (continuing.Reported x) = reportWords x
+continuedWords from continuing.ShortDual = 11 ∷ 0 ∷ 0 ∷ from .position ∷ from .found ∷ 0 ∷ 0 ∷ 0 ∷ []
+continuedWords from continuing.SpoiltSearch = 14 ∷ 0 ∷ 0 ∷ from .position ∷ from .found ∷ 0 ∷ 0 ∷ 0 ∷ []
+continuedWords from (continuing.Refused r) = refusalWords r (from .position) (from .found)

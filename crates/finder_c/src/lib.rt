@@ -4,13 +4,19 @@ ghost use mathlib.Core.Path.{_≡_};
 ghost use lib.ListN.{length};
 ghost use Rattle.papers.specs.Reading.{readFile, readPapers};
 ghost use Rattle.dual.specs.Answers.{dualAnswer, dualAfter};
-ghost use Rattle.model.specs.Judging.{judgeAnswer, dualJudged, modelJudged};
-ghost use Rattle.finder_c.specs.Words.{flagNumber, paperNumber, refusalWords, restWords, dualWords, judgedWords};
+ghost use Rattle.judging.specs.Judging.{judgeAnswer, dualJudged, modelJudged};
+ghost use Rattle.search.specs.declared.Record.{Record};
+ghost use Rattle.search.specs.Searching.{continueAnswer, dualContinued, listContinued};
+ghost use Rattle.finder_c.specs.Words.{flagNumber, paperNumber, stateNumber, recordOf, refusalWords, restWords, dualWords, judgedWords, reportWords, continuedWords};
 use dual::DualWritten;
-use model::Judged;
+use judging::Judged;
 use papers::Paper;
 use papers::PapersRead;
 use papers::Refusal;
+use search::Continued;
+use search::Record;
+use search::Report;
+use search::State;
 
 fn paper_number(paper: Paper) -> u64
     ensures { λ r. ⌜ r ≡ paperNumber paper ⌝ }
@@ -21,26 +27,26 @@ fn paper_number(paper: Paper) -> u64
     }
 }
 
-fn refusal_words(refusal: Refusal, rest: usize) -> [u64; 8]
-    ensures { λ r. ⌜ r ≡ refusalWords refusal rest ⌝ }
+fn refusal_words(refusal: Refusal, third: u64, fourth: u64) -> [u64; 8]
+    ensures { λ r. ⌜ r ≡ refusalWords refusal third fourth ⌝ }
 {
     let number = refusal.number as u64;
     let paper = refusal.paper;
     let place = refusal.place as u64;
-    [number, paper_number(paper), place, rest as u64, 0, 0, 0, 0]
+    [number, paper_number(paper), place, third, fourth, 0, 0, 0]
 }
 
 #[no_mangle]
 pub extern "C" fn finder_rest<'a>(file: &'a [u8], sheet: &'a [u8], out: &mut [u64; 8])
     ensures { λ _. ⌜ now (out .exit) ≡ restWords (readPapers (now (file .entry)) (now (sheet .entry))) (now (file .entry)) (now (sheet .entry)) ⌝ }
 {
-    let read = papers::read_papers(file, sheet);
+    let read = reading::read_papers(file, sheet);
     let PapersRead::Refused(refusal) = read else {
         *out = [0; 8];
         return;
     };
-    let rest = papers::rest_of_paper(file, sheet).len();
-    *out = refusal_words(refusal, rest);
+    let rest = reading::rest_of_paper(file, sheet).len();
+    *out = refusal_words(refusal, rest as u64, 0);
 }
 
 fn dual_words(written: DualWritten) -> [u64; 8]
@@ -49,7 +55,7 @@ fn dual_words(written: DualWritten) -> [u64; 8]
     match written {
         DualWritten::Length(n) => [0, 0, 0, n as u64, 0, 0, 0, 0],
         DualWritten::Short => [11, 0, 0, 0, 0, 0, 0, 0],
-        DualWritten::Refused(refusal) => refusal_words(refusal, 0),
+        DualWritten::Refused(refusal) => refusal_words(refusal, 0, 0),
     }
 }
 
@@ -75,7 +81,7 @@ fn judged_words(judged: Judged) -> [u64; 8]
         Judged::ShortDual => [11, 0, 0, 0, 0, 0, 0, 0],
         Judged::ShortModel => [12, 0, 0, 0, 0, 0, 0, 0],
         Judged::NoScenario => [13, 0, 0, 0, 0, 0, 0, 0],
-        Judged::Refused(refusal) => refusal_words(refusal, 0),
+        Judged::Refused(refusal) => refusal_words(refusal, 0, 0),
     }
 }
 
@@ -90,6 +96,64 @@ pub extern "C" fn finder_judge(
 )
     ensures { λ _. ⌜ (now (out .exit) ≡ judgedWords (judgeAnswer (readPapers (now (file .entry)) (now (sheet .entry))) scenario (length (now (dual .entry))) (length (now (model .entry))))) × ((now (dual .exit) ≡ dualJudged (readPapers (now (file .entry)) (now (sheet .entry))) scenario (now (dual .entry)) (now (model .entry))) × (now (model .exit) ≡ modelJudged (readPapers (now (file .entry)) (now (sheet .entry))) scenario (now (dual .entry)) (now (model .entry)))) ⌝ }
 {
-    let judged = model::judge(file, sheet, scenario, dual, model);
+    let judged = judging::judge(file, sheet, scenario, dual, model);
     *out = judged_words(judged);
+}
+
+fn state_number(state: State) -> u64
+    ensures { λ r. ⌜ r ≡ stateNumber state ⌝ }
+{
+    match state {
+        State::Going => 0,
+        State::Full => 1,
+        State::Ended => 2,
+    }
+}
+
+fn report_words(report: Report) -> [u64; 8]
+    ensures { λ r. ⌜ r ≡ reportWords report ⌝ }
+{
+    let new = report.new;
+    let state = report.state;
+    [
+        0,
+        0,
+        0,
+        new.position as u64,
+        new.found as u64,
+        report.tried as u64,
+        report.rounds,
+        state_number(state),
+    ]
+}
+
+fn continued_words(from: Record, continued: Continued) -> [u64; 8]
+    ensures { λ r. ⌜ r ≡ continuedWords from continued ⌝ }
+{
+    let position = from.position as u64;
+    let found = from.found as u64;
+    match continued {
+        Continued::Reported(report) => report_words(report),
+        Continued::ShortDual => [11, 0, 0, position, found, 0, 0, 0],
+        Continued::SpoiltSearch => [14, 0, 0, position, found, 0, 0, 0],
+        Continued::Refused(refusal) => refusal_words(refusal, position, found),
+    }
+}
+
+#[no_mangle]
+pub extern "C" fn finder_continue(
+    file: &[u8],
+    sheet: &[u8],
+    dual: &mut [u8],
+    list: &mut [u32],
+    position: u32,
+    found: u32,
+    allowance: u32,
+    out: &mut [u64; 8],
+)
+    ensures { λ _. ⌜ (now (out .exit) ≡ continuedWords (recordOf position found) (continueAnswer (readPapers (now (file .entry)) (now (sheet .entry))) allowance (length (now (dual .entry))) (recordOf position found) (now (list .entry)))) × ((now (dual .exit) ≡ dualContinued (readPapers (now (file .entry)) (now (sheet .entry))) allowance (now (dual .entry)) (recordOf position found) (now (list .entry))) × (now (list .exit) ≡ listContinued (readPapers (now (file .entry)) (now (sheet .entry))) allowance (length (now (dual .entry))) (recordOf position found) (now (list .entry)))) ⌝ }
+{
+    let from = Record { position, found };
+    let continued = search::continue_search(file, sheet, dual, list, from, allowance);
+    *out = continued_words(from, continued);
 }

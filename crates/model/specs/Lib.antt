@@ -6,11 +6,4 @@ pub mod Scenarios
 pub mod LeastSet
 pub mod Model
 pub mod Falsity
-pub mod Lanes
-pub mod Words
-pub mod Closing
-pub mod FalseWords
-pub mod RoundLanes
-pub mod VerdictLanes
-pub mod Judging
 pub mod Computing

@@ -11,10 +11,15 @@ use Rattle.dual.specs.Table.{dual}
 use Rattle.dual.specs.Encoding.{encodeDual}
 use Rattle.literals.specs.Numbering.{falsum}
 use Rattle.model.specs.Model.{modelBytes, rounds, explains}
+use Rattle.search.specs.Continuing.{fresh, continue}
+use Rattle.search.specs.Searching.{problemOf}
 use Rattle.reference.specs.Programs.{example21, example21Dual, example31, contradiction, contradictionAllowed, queryD}
+use Rattle.reference.specs.Programs.{example32, figureP0, figureP3, figureP4, figureQ8, figureQ11}
 use Rattle.reference.proofs.Example21.{accepted21, length21, dual21}
 use Rattle.reference.proofs.Models.{model21, rounds21, accepted31, model31, rounds31}
 use Rattle.reference.proofs.Models.{contradiction-accepted, contradiction-falsum, contradiction-none, allowed-accepted, allowed-d, allowed-explains}
+use Rattle.reference.proofs.Searches.{Read, whole, example32-read, example32-found, figureP0-read, figureP0-found, figureP3-read, figureP3-found}
+use Rattle.reference.proofs.Searches.{figureP4-read, figureP4-found, figureQ8-read, figureQ8-found, figureQ11-read, figureQ11-found}
 
 pub record Calls : Type 0 where
   -- "Example 2.1: a, b, c = 0, 1, 2; c :- not b; b :- a; -b; a :- not a. Model 0 2 2 1 1 2 2, 3 rounds, dual 60 bytes."
@@ -27,6 +32,24 @@ pub record Calls : Type 0 where
   pub example31-accepted : readFile (encodeFile example31) ≡ accepted example31
   pub example31-model : modelBytes example31 0 ≡ 1 ∷ 2 ∷ 2 ∷ 2 ∷ 2 ∷ 2 ∷ 2 ∷ 2 ∷ 2 ∷ []
   pub example31-rounds : rounds example31 0 ≡ 2
+  -- "Example 3.2, p*, q* abducible in that order, query q: only scenario 5."
+  pub example32-read : Read example32
+  pub example32-found : continue (problemOf example32) 9 fresh (0 ∷ 0 ∷ []) ≡ whole 9 1 (5 ∷ 0 ∷ []) 17
+  -- "Not p0 gives 8."
+  pub not-p0-read : Read figureP0
+  pub not-p0-found : continue (problemOf figureP0) 9 fresh (0 ∷ 0 ∷ []) ≡ whole 9 1 (8 ∷ 0 ∷ []) 9
+  -- "Not p4 gives 1, 3."
+  pub not-p4-read : Read figureP4
+  pub not-p4-found : continue (problemOf figureP4) 9 fresh (0 ∷ 0 ∷ []) ≡ whole 9 2 (1 ∷ 3 ∷ []) 15
+  -- "q8 gives 2, 3."
+  pub q8-read : Read figureQ8
+  pub q8-found : continue (problemOf figureQ8) 9 fresh (0 ∷ 0 ∷ []) ≡ whole 9 2 (2 ∷ 3 ∷ []) 13
+  -- "Not q11 (a alone) gives 1, 2."
+  pub not-q11-read : Read figureQ11
+  pub not-q11-found : continue (problemOf figureQ11) 9 fresh (0 ∷ 0 ∷ []) ≡ whole 3 2 (1 ∷ 2 ∷ []) 5
+  -- "p3 (none) gives nothing, 1 tried."
+  pub p3-read : Read figureP3
+  pub p3-found : continue (problemOf figureP3) 9 fresh [] ≡ whole 1 0 [] 1
   -- "d :- a; -d; falsum :- d, -d; query d; a assumed: falsum 3, no explanation. Without the integrity rule d is 3 and it is one."
   pub contradiction-accepted : readFile (encodeFile contradiction) ≡ accepted contradiction
   pub contradiction-falsum : getD (modelBytes contradiction 1) (falsum 2) 0 ≡ 3
@@ -45,6 +68,18 @@ calls = record {
   example31-accepted = accepted31;
   example31-model = model31;
   example31-rounds = rounds31;
+  example32-read = example32-read;
+  example32-found = example32-found;
+  not-p0-read = figureP0-read;
+  not-p0-found = figureP0-found;
+  not-p4-read = figureP4-read;
+  not-p4-found = figureP4-found;
+  q8-read = figureQ8-read;
+  q8-found = figureQ8-found;
+  not-q11-read = figureQ11-read;
+  not-q11-found = figureQ11-found;
+  p3-read = figureP3-read;
+  p3-found = figureP3-found;
   contradiction-accepted = contradiction-accepted;
   contradiction-falsum = contradiction-falsum;
   contradiction-unexplained = contradiction-none;

@@ -2,6 +2,7 @@
 use mathlib.Core.List.{List, [], _∷_}
 use Prim.Native.Nat.{ℕ}
 use Rattle.papers.specs.Program.{Rule, Program, Query}
+use Rattle.papers.specs.Reading.{Papers}
 
 abbrev pub rule : ℕ → List ℕ → Rule
 rule head body = record { head = head; body = body }
@@ -58,3 +59,63 @@ contradictionAllowed = record {
 
 abbrev pub queryD : Query
 queryD = 4 ∷ []
+
+-- A program with a query.
+abbrev pub papers : Program → Query → Papers
+papers program query = record { program = program; query = query }
+
+-- "Example 3.2, p*, q* abducible in that order, query q", of document 000: p, q, p*, q*, p_constr, q_constr = 0 to 5; p :- not q*;
+-- q :- not p*; p_constr :- p, -p*; q_constr :- q, -q*; falsum :- p_constr; falsum :- q_constr.
+abbrev pub example32 : Papers
+example32 = papers (record {
+  atoms = 6;
+  abducibles = 2 ∷ 3 ∷ [];
+  rules = rule 0 (13 ∷ []) ∷ rule 2 (9 ∷ []) ∷ rule 8 (0 ∷ 10 ∷ []) ∷ rule 10 (4 ∷ 14 ∷ []) ∷ [];
+  integrity = (16 ∷ []) ∷ (20 ∷ []) ∷ [];
+}) (4 ∷ [])
+
+-- "The programs of Figure 1 of document 001, each loaded without the others, abducibles a, b in that order": a, b = 0, 1.
+-- p0 :- q0; p0 :- a; q0 :- p0; q0 :- b; query not p0.
+abbrev pub figureP0 : Papers
+figureP0 = papers (record {
+  atoms = 4;
+  abducibles = 0 ∷ 1 ∷ [];
+  rules = rule 4 (12 ∷ []) ∷ rule 4 (0 ∷ []) ∷ rule 6 (8 ∷ []) ∷ rule 6 (4 ∷ []) ∷ [];
+  integrity = [];
+}) (9 ∷ [])
+
+-- p4 :- q4; q4 :- p4; q4 :- not a, not b; query not p4.
+abbrev pub figureP4 : Papers
+figureP4 = papers (record {
+  atoms = 4;
+  abducibles = 0 ∷ 1 ∷ [];
+  rules = rule 4 (12 ∷ []) ∷ rule 6 (8 ∷ []) ∷ rule 6 (1 ∷ 5 ∷ []) ∷ [];
+  integrity = [];
+}) (9 ∷ [])
+
+-- p8 :- not q8, a; q8 :- not p8; q8 :- b; query q8.
+abbrev pub figureQ8 : Papers
+figureQ8 = papers (record {
+  atoms = 4;
+  abducibles = 0 ∷ 1 ∷ [];
+  rules = rule 4 (13 ∷ 0 ∷ []) ∷ rule 6 (9 ∷ []) ∷ rule 6 (4 ∷ []) ∷ [];
+  integrity = [];
+}) (12 ∷ [])
+
+-- a alone: p11 :- not q11, a; q11 :- p11, not a; query not q11.
+abbrev pub figureQ11 : Papers
+figureQ11 = papers (record {
+  atoms = 3;
+  abducibles = 0 ∷ [];
+  rules = rule 2 (9 ∷ 0 ∷ []) ∷ rule 4 (4 ∷ 1 ∷ []) ∷ [];
+  integrity = [];
+}) (9 ∷ [])
+
+-- No abducible: p3 :- q3; q3 :- not r3; r3 :- p3; query p3.
+abbrev pub figureP3 : Papers
+figureP3 = papers (record {
+  atoms = 3;
+  abducibles = [];
+  rules = rule 0 (4 ∷ []) ∷ rule 2 (9 ∷ []) ∷ rule 4 (0 ∷ []) ∷ [];
+  integrity = [];
+}) (0 ∷ [])

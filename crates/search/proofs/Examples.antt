@@ -6,7 +6,9 @@ use mathlib.Core.List.{List, [], _∷_}
 use Prim.Native.Nat.{ℕ, _+_}
 use lib.ListN.{getD}
 use Rattle.search.specs.Scenarios.{Problem, minimals, stop}
-use Rattle.search.specs.Continuing.{Record, fresh, ended, full, going, State, Report, continue, stopFrom}
+use Rattle.search.specs.declared.State.{State}
+use Rattle.search.specs.declared.State.the-variants.{Ended, Full, Going}
+use Rattle.search.specs.Continuing.{Record, fresh, Report, continue, stopFrom}
 use Rattle.search.specs.Spoilt.{spoilt}
 use Rattle.search.specs.Calls.{Call, refusal, report, calls}
 use Rattle.search.specs.Computing.{computing}
@@ -41,7 +43,7 @@ unfolding computing five problem
 five-stops = refl
 
 -- The whole search in one call; the entry beyond those found stays.
-five-whole : continue five 100 fresh (7 ∷ 7 ∷ 7 ∷ 7 ∷ []) ≡ told 9 3 (1 ∷ 5 ∷ 6 ∷ 7 ∷ []) 9 45 ended
+five-whole : continue five 100 fresh (7 ∷ 7 ∷ 7 ∷ 7 ∷ []) ≡ told 9 3 (1 ∷ 5 ∷ 6 ∷ 7 ∷ []) 9 45 Ended
 unfolding computing five problem at told
 five-whole = refl
 
@@ -50,7 +52,7 @@ five-calls : calls five (made 3 ∷ short 50 ∷ made 50 ∷ []) fresh (7 ∷ 7 
     ≡ record {
       last = at 6 2;
       list = 1 ∷ 5 ∷ [];
-      answers = report (told 3 1 (1 ∷ 7 ∷ []) 3 6 going) ∷ refusal ∷ report (told 6 2 (1 ∷ 5 ∷ []) 3 15 full) ∷ [];
+      answers = report (told 3 1 (1 ∷ 7 ∷ []) 3 6 Going) ∷ refusal ∷ report (told 6 2 (1 ∷ 5 ∷ []) 3 15 Full) ∷ [];
     }
 unfolding computing five problem at told made short
 five-calls = refl
@@ -61,7 +63,7 @@ unfolding computing
 five-none = refl
 
 -- Not reached from a fresh search: with 2 listed, 5 and 8 are not new, and 1 is not looked for.
-five-general : continue five 100 (at 3 1) (2 ∷ 7 ∷ 7 ∷ []) ≡ told 9 3 (2 ∷ 4 ∷ 6 ∷ []) 6 39 ended
+five-general : continue five 100 (at 3 1) (2 ∷ 7 ∷ 7 ∷ []) ≡ told 9 3 (2 ∷ 4 ∷ 6 ∷ []) 6 39 Ended
 unfolding computing five problem at told
 five-general = refl
 
@@ -99,7 +101,7 @@ two-calls : calls two (made 9 ∷ made 5 ∷ made 0 ∷ []) fresh (7 ∷ [])
     ≡ record {
       last = at 3 1;
       list = 1 ∷ [];
-      answers = report (told 3 1 (1 ∷ []) 3 6 full) ∷ report (told 3 1 (1 ∷ []) 0 0 full) ∷ report (told 3 1 (1 ∷ []) 0 0 going) ∷ [];
+      answers = report (told 3 1 (1 ∷ []) 3 6 Full) ∷ report (told 3 1 (1 ∷ []) 0 0 Full) ∷ report (told 3 1 (1 ∷ []) 0 0 Going) ∷ [];
     }
 unfolding computing two problem at told made
 two-calls = refl

@@ -8,7 +8,6 @@ pub mod Sums
 pub mod Steps
 pub mod Runs
 pub mod General
-pub mod Looping
 pub mod Canonical
 pub mod Sound
 pub mod Keeping
@@ -16,8 +15,11 @@ pub mod Calling
 pub mod Pause
 pub mod Reached
 pub mod Walking
-pub mod Powers
 pub mod Decisions
 pub mod Trying
 pub mod Batches
+pub mod JudgedLanes
+pub mod CallLaws
+pub mod AnswerLaws
+pub mod SearchPause
 pub mod Examples

@@ -10,7 +10,8 @@ use lib.Dec.{eqb, ltb}
 use lib.ListN.{length}
 use Rattle.papers.specs.Valid.{All, All.none as nothing, All.each as each}
 use Rattle.search.specs.Scenarios.{Problem, scenarios, stop, sumBelow, roundsFrom}
-use Rattle.search.specs.Continuing.{Record, fresh, ended, full, going, stateOf, Work, Report, reportOf}
+use Rattle.search.specs.declared.State.the-variants.{Ended, Full, Going}
+use Rattle.search.specs.Continuing.{Record, fresh, stateBy, stateOf, Work, Report, reportOf}
 use Rattle.search.specs.Calls.{Call, refusal, report, Called, first, calls, triedBy, roundsBy, allowances, unrefused, reports}
 use Rattle.search.specs.Demand.{Honest, isRefused, isRefusal, Demand}
 use Rattle.search.proofs.Sums.{sum-rounds, sum-bound}
@@ -22,20 +23,20 @@ use Rattle.search.proofs.Calling.{calls-refused, calls-made, allowances
 -- ---- one call
 
 -- Ended is reported at 3^k, and full where fewer were tried than allowed.
-state-ended : (P : Problem) (w : ℕ) (s : Work) → stateOf P w s ≡ ended → s .position ≡ scenarios P
-unfolding stateOf
+state-ended : (P : Problem) (w : ℕ) (s : Work) → stateOf P w s ≡ Ended → s .position ≡ scenarios P
+unfolding stateBy
 state-ended P w s e = go (eqb (s .position) (scenarios P)) (ltb (s .tried) w) refl e
   where
-    go : (a b : Bool) → eqb (s .position) (scenarios P) ≡ a → cond a ended (cond b full going) ≡ ended → s .position ≡ scenarios P
+    go : (a b : Bool) → eqb (s .position) (scenarios P) ≡ a → cond a Ended (cond b Full Going) ≡ Ended → s .position ≡ scenarios P
     go true b x h = eqb-true (s .position) (scenarios P) x
     go false true x h = absurd (let z : _≡_ {A = ℕ} 0 1 = cc in omega arith)
     go false false x h = absurd (let z : _≡_ {A = ℕ} 0 1 = cc in omega arith)
 
-state-full : (P : Problem) (w : ℕ) (s : Work) → stateOf P w s ≡ full → s .tried < w
-unfolding stateOf
+state-full : (P : Problem) (w : ℕ) (s : Work) → stateOf P w s ≡ Full → s .tried < w
+unfolding stateBy
 state-full P w s e = go (eqb (s .position) (scenarios P)) (ltb (s .tried) w) refl e
   where
-    go : (a b : Bool) → ltb (s .tried) w ≡ b → cond a ended (cond b full going) ≡ full → s .tried < w
+    go : (a b : Bool) → ltb (s .tried) w ≡ b → cond a Ended (cond b Full Going) ≡ Full → s .tried < w
     go true b x h = absurd (let z : _≡_ {A = ℕ} 0 1 = cc in omega arith)
     go false true x h = ltb-true (s .tried) w x
     go false false x h = absurd (let z : _≡_ {A = ℕ} 0 1 = cc in omega arith)

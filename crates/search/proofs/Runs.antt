@@ -33,10 +33,6 @@ module _ (P : Problem) where
   unfolding steps
   steps-zero s = refl
 
-  pub steps-first : (w : ℕ) (s : Work) → steps P (suc w) s ≡ steps P w (step P s)
-  unfolding steps
-  steps-first w s = refl
-
   -- w1 steps, then w2 steps, are w1 + w2 steps.
   pub steps-add : (a b : ℕ) (s : Work) → steps P (a + b) s ≡ steps P b (steps P a s)
   unfolding steps

@@ -7,7 +7,7 @@ use Prim.Native.Nat.{ℕ, _+_, _<_, _≤_}
 use native.Mathlib.Omega.{arith}
 use native.Mathlib.Numerals.{add-one}
 use lib.ListN.{getD, set, length-set}
-use Rattle.model.specs.Lanes.{inLane}
+use Rattle.lanes.specs.Lanes.{inLane}
 use Rattle.search.specs.declared.stepping.Move.{Move as Told}
 use Rattle.search.specs.declared.stepping.Move.the-variants.{Stands, Tries, Writes}
 use Rattle.search.specs.declared.stepping.Progress.{Progress}

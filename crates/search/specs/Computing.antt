@@ -1,6 +1,6 @@
 -- What has to unfold for a search to be computed: a theorem says `unfolding computing`.
 use Rattle.search.specs.Scenarios.{partDigit, partOf, someBelow, lesser, minimal, minimals, stop, sumBelow}
-use Rattle.search.specs.Continuing.{containsOne, newTo, move, step, steps, stateOf, continue, stopFrom}
+use Rattle.search.specs.Continuing.{containsOne, newTo, move, step, steps, stateBy, continue, stopFrom}
 use Rattle.search.specs.Spoilt.{rising, allBelow, spoiltBy}
 use Rattle.search.specs.Calls.{answer, calls, triedBy, roundsBy, allowances, unrefused, reports}
 
@@ -11,7 +11,7 @@ minimality = tt
 
 -- one call,
 unfoldable continuing : Unit {0}
-unfolding partDigit partOf containsOne newTo move step steps stateOf continue stopFrom
+unfolding partDigit partOf containsOne newTo move step steps stateBy continue stopFrom
 continuing = tt
 
 -- and a list of calls.

@@ -4,12 +4,11 @@ use mathlib.Core.List.{List, [], _∷_}
 use Prim.Native.Nat.{ℕ, zero, suc, _+_, _-_}
 use lib.Dec.{eqb, ltb}
 use lib.ListN.{length, take, set}
+use Rattle.search.specs.declared.State.{State}
+use Rattle.search.specs.declared.State.the-variants.{Ended, Full, Going}
 use Rattle.search.specs.Scenarios.{Problem, scenarios, partOf}
-
--- The record of a search: its next scenario, and how many of the list's entries are found ones.
-pub record Record : Type 0 where
-  pub position : ℕ
-  pub found : ℕ
+-- The record of a search, as the code declares it: its next scenario, and how many of the list's entries are found ones.
+pub use Rattle.search.specs.declared.Record.{Record}
 
 -- "Fresh record: position 0, found 0."
 abbrev pub fresh : Record
@@ -58,12 +57,12 @@ unfoldable pub steps : Problem → ℕ → Work → Work
 steps P zero s = s
 steps P (suc w) s = steps P w (step P s)
 
-pub data State : Type 0 where
-  ended full going : State
+-- "Ended: position is 3^k. Full: not ended and tried is below w. Else going." Here 3^k is `total`.
+unfoldable pub stateBy : ℕ → ℕ → ℕ → ℕ → State
+stateBy total w position tried = cond (eqb position total) Ended (cond (ltb tried w) Full Going)
 
--- "Ended: position is 3^k. Full: not ended and tried is below w. Else going."
-unfoldable pub stateOf : Problem → ℕ → Work → State
-stateOf P w s = cond (eqb (s .position) (scenarios P)) ended (cond (ltb (s .tried) w) full going)
+abbrev pub stateOf : Problem → ℕ → Work → State
+stateOf P w s = stateBy (scenarios P) w (s .position) (s .tried)
 
 -- "Reports the new record (position p plus tried), tried, rounds (in 64 bits, the round counts of the scenarios tried added up) and
 -- the state: ended, full or going." `list` is the lent list afterwards.

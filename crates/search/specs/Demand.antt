@@ -6,14 +6,15 @@ use Prim.Native.Nat.{ℕ, _*_, _<_, _≤_, min}
 use lib.ListN.{length, take, drop}
 use Rattle.papers.specs.Valid.{All}
 use Rattle.search.specs.Scenarios.{Problem, scenarios, minimals, stop, sumBelow}
-use Rattle.search.specs.Continuing.{ended, full, Report, fresh}
+use Rattle.search.specs.declared.State.the-variants.{Ended, Full}
+use Rattle.search.specs.Continuing.{Report, fresh}
 use Rattle.search.specs.Spoilt.{spoilt}
 use Rattle.search.specs.Calls.{Call, Answer, refusal, report, Called, calls, triedBy, roundsBy, allowances, unrefused, reports}
 
 -- A report of ended or full is made at the stopping point.
 pub record Honest (stop : ℕ) (x : Report) : Type 0 where
-  pub ended : x .state ≡ ended → x .new .position ≡ stop
-  pub full : x .state ≡ full → x .new .position ≡ stop
+  pub ended : x .state ≡ Ended → x .new .position ≡ stop
+  pub full : x .state ≡ Full → x .new .position ≡ stop
 
 unfoldable pub isRefused : Call → Bool
 isRefused c = c .refused

@@ -5,4 +5,6 @@ pub mod Spoilt
 pub mod Calls
 pub mod Demand
 pub mod Stepping
+pub mod Searching
+pub mod SearchCalls
 pub mod Computing

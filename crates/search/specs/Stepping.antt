@@ -2,9 +2,10 @@
 use mathlib.Core.Path.{_≡_}
 use mathlib.Core.Bool.{Bool}
 use mathlib.Core.List.{List}
+use mathlib.Core.Logic.{_⊎_}
 use Prim.Native.Nat.{ℕ, _+_, _*_, _^_, _<_, _≤_}
 use lib.ListN.{length, getD}
-use Rattle.model.specs.Lanes.{inLane}
+use Rattle.lanes.specs.Lanes.{inLane}
 use Rattle.search.specs.declared.stepping.Move.{Move as Told}
 use Rattle.search.specs.declared.stepping.Move.the-variants.{Stands, Tries, Writes}
 use Rattle.search.specs.declared.stepping.Progress.{Progress}
@@ -79,3 +80,16 @@ pub record LanesTried (k total explained : ℕ) (rounds : List ℕ) (count : ℕ
     : Type 0 where
   pub advance : Advance total count before list after left
   pub is : (P : Problem) → InLanes P k (before .position) explained rounds → steps P count (workOf before list) ≡ workOf after left
+
+-- ---- any number of steps of one problem
+
+-- How many scenarios to judge next: up to 64, as many as may still be tried and are there.
+pub record Batch (tried allowance position total size : ℕ) : Type 0 where
+  pub lanes : size ≤ 64
+  pub allowed : tried + size ≤ allowance
+  pub there : position + size ≤ total
+  pub none : size ≡ 0 → (tried ≡ allowance) ⊎ (position ≡ total)
+
+pub record Tried (P : Problem) (total count : ℕ) (before : Progress) (list : List ℕ) (after : Progress) (left : List ℕ) : Type 0 where
+  pub advance : Advance total count before list after left
+  pub is : steps P count (workOf before list) ≡ workOf after left

@@ -1,4 +1,97 @@
 // The search for minimal explanations.
 mod parts;
+mod searching;
 mod spoilt;
 mod stepping;
+
+ghost use mathlib.Core.Path.{_≡_};
+ghost use lib.ListN.{length};
+ghost use Rattle.papers.specs.Reading.{readPapers};
+ghost use Rattle.search.specs.Continuing.{fresh};
+ghost use Rattle.search.specs.Searching.{continueAnswer, dualContinued, listContinued};
+use dual::DualWritten;
+use lanes::digits::scenario_count;
+use papers::PapersRead;
+use papers::Refusal;
+use searching::search_accepted;
+use spoilt::is_spoilt;
+
+// A search: its next scenario, and how many of the list's entries are found ones.
+pub struct Record {
+    pub position: u32,
+    pub found: u32,
+}
+
+pub enum State {
+    Ended,
+    Full,
+    Going,
+}
+
+// What a call reports: the new record, the scenarios tried and their rounds, and the state.
+pub struct Report {
+    pub new: Record,
+    pub tried: u32,
+    pub rounds: u64,
+    pub state: State,
+}
+
+// What continuing answers: its report, or document 01's refusals 11 and 14, or one of the papers'.
+pub enum Continued {
+    Reported(Report),
+    ShortDual,
+    SpoiltSearch,
+    Refused(Refusal),
+}
+
+// The record of a search that begins.
+pub fn fresh() -> Record
+    ensures { λ r. ⌜ r ≡ fresh ⌝ }
+{
+    Record {
+        position: 0,
+        found: 0,
+    }
+}
+
+pub fn continue_search(
+    file: &[u8],
+    sheet: &[u8],
+    dual: &mut [u8],
+    list: &mut [u32],
+    from: Record,
+    allowance: u32,
+) -> Continued
+    ensures { λ r. ⌜ (r ≡ continueAnswer (readPapers (now (file .entry)) (now (sheet .entry))) allowance (length (now (dual .entry))) from (now (list .entry))) × ((now (dual .exit) ≡ dualContinued (readPapers (now (file .entry)) (now (sheet .entry))) allowance (now (dual .entry)) from (now (list .entry))) × (now (list .exit) ≡ listContinued (readPapers (now (file .entry)) (now (sheet .entry))) allowance (length (now (dual .entry))) from (now (list .entry)))) ⌝ }
+{
+    let read = reading::read_papers(file, sheet);
+    let PapersRead::Accepted(contents, literals) = read else {
+        let PapersRead::Refused(refusal) = read else {
+            return Continued::SpoiltSearch;
+        };
+        return Continued::Refused(refusal);
+    };
+    let total = scenario_count(contents.abducibles);
+    let spoilt = is_spoilt(list, from.position, from.found, total);
+    let places = folds::fold_places(file, contents);
+    let written = dual::write_accepted(file, contents, &places, dual, !spoilt);
+    let DualWritten::Length(_) = written else {
+        return Continued::ShortDual;
+    };
+    if spoilt {
+        return Continued::SpoiltSearch;
+    }
+    let end = 3 + 2 * literals;
+    let report = search_accepted(
+        file,
+        contents,
+        &places,
+        dual,
+        &sheet[3..end],
+        list,
+        total,
+        from,
+        allowance,
+    );
+    Continued::Reported(report)
+}

@@ -1,6 +1,6 @@
 // Parts of scenarios: whether one has only part of another's assumptions, and whether it contains those of a listed entry.
 ghost use mathlib.Core.Path.{_≡_};
-ghost use Prim.Native.Nat.{_≤_, _^_};
+ghost use Prim.Native.Nat.{_≤_};
 ghost use lib.ListN.{length, take};
 ghost use Rattle.search.specs.Scenarios.{partOf};
 ghost use Rattle.search.specs.Continuing.{containsOne};
@@ -39,18 +39,4 @@ pub(crate) fn contains_one(k: usize, list: &[u32], found: usize, s: u32) -> bool
         i += 1;
     }
     false
-}
-
-// How many scenarios k abducibles have.
-pub(crate) fn power_of_3(k: usize) -> u32
-    requires { ⌜ k ≤ 16 ⌝ }
-    ensures { λ r. ⌜ r ≡ 3 ^ k ⌝ }
-{
-    let mut power: u32 = 1;
-    let mut i: usize = 0;
-    while i < k {
-        power = power * 3;
-        i += 1;
-    }
-    power
 }

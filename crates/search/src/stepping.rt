@@ -2,7 +2,7 @@
 ghost use mathlib.Core.Path.{_≡_};
 ghost use Prim.Native.Nat.{_≤_, _<_, _^_};
 ghost use lib.ListN.{length};
-ghost use Rattle.model.specs.Lanes.{inLane};
+ghost use Rattle.lanes.specs.Lanes.{inLane};
 ghost use Rattle.search.specs.Stepping.{Decided, LaneReady, LaneTried, LanesReady, LanesTried};
 use crate::parts::contains_one;
 
@@ -64,22 +64,24 @@ fn try_lane(
     let position = before.position;
     let found = before.found;
     let at = found as usize;
+    let tried = before.tried + 1;
+    let spent = before.rounds + rounds;
     let step = decide(k, total, list, position, at, explains);
     match step {
         Move::Stands => before,
         Move::Tries => Progress {
             position: position + 1,
             found: found,
-            tried: before.tried + 1,
-            rounds: before.rounds + rounds,
+            tried: tried,
+            rounds: spent,
         },
         Move::Writes => {
             list[at] = position;
             Progress {
                 position: position + 1,
                 found: found + 1,
-                tried: before.tried + 1,
-                rounds: before.rounds + rounds,
+                tried: tried,
+                rounds: spent,
             }
         }
     }

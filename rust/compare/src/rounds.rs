@@ -2,6 +2,7 @@
 
 use plain::{encode_file, encode_sheet, Program, Query};
 
+use crate::causes::{causes, query_of_heads};
 use crate::damage::{a_few, damaged, Bounds, FIRST_PAST_LIMIT};
 use crate::fields::Fields;
 use crate::noise::{noise, noise_after, soup, tag_noise};
@@ -61,6 +62,22 @@ pub fn limit_round(random: &mut Random, examiner: &mut impl Examiner) {
         damaged_sheets(random, &papers, 4, examiner);
         mixed_up(&papers, examiner);
         long_tails(random, &papers, examiner);
+    }
+}
+
+/// The papers of a small program in which much follows and of some queries, the
+/// same damaged.
+pub fn causes_round(random: &mut Random, examiner: &mut impl Examiner) {
+    let (abducibles, others) = (random.below(6), random.between(1, 5));
+    let program = causes(random, abducibles, others);
+    for _ in 0..4 {
+        let query = query_of_heads(random, &program);
+        examiner.valid(&program, &query);
+
+        let papers = Papers::of(&program, &query);
+        examiner.pair(&papers.file, &papers.sheet);
+        damaged_files(random, &papers, 2, examiner);
+        damaged_sheets(random, &papers, 1, examiner);
     }
 }
 

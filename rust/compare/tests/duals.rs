@@ -2,6 +2,7 @@
 
 use compare::dual_coverage::{Accepted, DualCoverage};
 use compare::files::{mixed_files, FileExaminer};
+use compare::lent::Patterns;
 use compare::random::Random;
 use compare::run::{hex, Run};
 use finder::SLOTS;
@@ -10,12 +11,6 @@ use plain::{encode_file, read_file, write_dual, Program, WriteRefusal};
 
 const LEAST_FILES: u64 = 200_000;
 
-/// The bytes before a lent buffer, and after it, that must stay.
-const MARGIN: usize = 16;
-
-/// More than the bytes of the longest buffer with its margins.
-const PATTERN: usize = 2 * LONGEST_DUAL;
-
 fn main() {
     let run = Run::start(
         "plain_and_finder_write_the_same_duals",
@@ -23,13 +18,11 @@ fn main() {
     );
     let seed = run.seed;
     let mut random = Random::new(seed);
-    let mut patterns = Random::new(!seed);
     let mut comparison = Comparison {
         run,
         files: 0,
         buffers: 0,
-        pattern: (0..PATTERN).map(|_| patterns.byte()).collect(),
-        patterns,
+        patterns: Patterns::new(!seed),
         coverage: DualCoverage::default(),
     };
     while comparison.files < LEAST_FILES {
@@ -46,11 +39,7 @@ struct Comparison {
     run: Run,
     files: u64,
     buffers: u64,
-    /// Some part of this is what a buffer holds before a call, so that a byte
-    /// left unwritten, or written though it must stay, shows.
-    pattern: Vec<u8>,
-    /// Which part it is, what the words hold, and how long some buffers are.
-    patterns: Random,
+    patterns: Patterns,
     coverage: DualCoverage,
 }
 
@@ -68,7 +57,7 @@ impl FileExaminer for Comparison {
             Ok(program) => self.accepted(file, program),
             Err(refusal) => {
                 self.coverage.count_refused(&refusal);
-                let any = self.patterns.below(100);
+                let any = self.patterns.random.below(100);
                 for length in [0, any, LONGEST_DUAL] {
                     self.compare(file, length);
                 }
@@ -82,8 +71,8 @@ impl Comparison {
         let accepted = Accepted::new(program);
         self.coverage.count_accepted(&accepted);
         let dual_length = accepted.dual_length;
-        let shorter = self.patterns.below(dual_length);
-        let longer = dual_length + self.patterns.between(1, 100);
+        let shorter = self.patterns.random.below(dual_length);
+        let longer = dual_length + self.patterns.random.between(1, 100);
         for length in [0, shorter, dual_length - 1, dual_length, longer] {
             self.coverage.count_lent(length, dual_length);
             self.compare(file, length);
@@ -93,15 +82,12 @@ impl Comparison {
     /// Lends both finders a buffer of so many bytes.
     fn compare(&mut self, file: &[u8], length: usize) {
         self.buffers += 1;
-        let size = MARGIN + length + MARGIN;
-        let start = self.patterns.below(PATTERN - size);
-        let mut expected_bytes = self.pattern[start..start + size].to_vec();
+        let mut expected_bytes = self.patterns.buffer(length);
         let mut found_bytes = expected_bytes.clone();
-        let mut found: [u64; SLOTS] = std::array::from_fn(|_| self.patterns.word());
+        let mut found: [u64; SLOTS] = self.patterns.words();
 
-        let lent = MARGIN..MARGIN + length;
-        let expected = words(write_dual(file, &mut expected_bytes[lent.clone()]));
-        finder::write_dual_words(file, &mut found_bytes[lent], &mut found);
+        let expected = words(write_dual(file, expected_bytes.part()));
+        finder::write_dual_words(file, found_bytes.part(), &mut found);
         if found != expected {
             let what = format!(
                 "the finders differ with a buffer of {length} bytes\n\
@@ -109,18 +95,8 @@ impl Comparison {
             );
             self.fail(&what, file);
         }
-        if found_bytes != expected_bytes {
-            let mut pairs = found_bytes.iter().zip(&expected_bytes);
-            let at = pairs.position(|(found, expected)| found != expected);
-            let at = at.expect("a byte that differs");
-            let some = at..found_bytes.len().min(at + 40);
-            let what = format!(
-                "the finders differ in a buffer of {length} bytes from byte {}\n\
-                 plain  {}\nfinder {}",
-                at as i64 - MARGIN as i64,
-                hex(&expected_bytes[some.clone()]),
-                hex(&found_bytes[some])
-            );
+        if let Some(difference) = found_bytes.difference(&expected_bytes) {
+            let what = format!("the finders differ in a buffer {difference}");
             self.fail(&what, file);
         }
     }

@@ -19,4 +19,32 @@ extern "C" {
         dual_len: usize,
         out: *mut u64,
     );
+
+    pub fn finder_judge(
+        file: *const u8,
+        file_len: usize,
+        sheet: *const u8,
+        sheet_len: usize,
+        scenario: u32,
+        dual: *mut u8,
+        dual_len: usize,
+        model: *mut u8,
+        model_len: usize,
+        out: *mut u64,
+    );
+
+    pub fn finder_continue(
+        file: *const u8,
+        file_len: usize,
+        sheet: *const u8,
+        sheet_len: usize,
+        dual: *mut u8,
+        dual_len: usize,
+        list: *mut u32,
+        list_len: usize,
+        position: u32,
+        found: u32,
+        allowance: u32,
+        out: *mut u64,
+    );
 }

@@ -5,10 +5,14 @@
 
 mod boundary;
 pub mod dual;
+pub mod judge;
 pub mod refusal;
 pub mod rest;
+pub mod search;
 
 pub use boundary::SLOTS;
 pub use dual::{write_dual, write_dual_words, WriteRefusal};
+pub use judge::{judge, judge_words, JudgeRefusal, Judgement};
 pub use refusal::{Paper, Refusal};
 pub use rest::{rest, rest_words, Answer};
+pub use search::{continue_search, continue_words, ContinueRefusal, Continued, Record, State};

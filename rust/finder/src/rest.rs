@@ -50,21 +50,14 @@ fn answer<'p>(file: &'p [u8], sheet: &'p [u8], words: &[u64; SLOTS]) -> Answer<'
         };
     }
 
-    assert!(number <= 10, "no reading is refused with number {number}");
-    let (paper, bytes) = match paper {
-        0 => (Paper::File, file),
-        1 => (Paper::Sheet, sheet),
-        _ => panic!("there is no paper {paper}"),
+    let refusal = Refusal::of_slots([number, paper, place], file, sheet);
+    let rest = match refusal.paper {
+        Paper::File => &file[refusal.place..],
+        Paper::Sheet => &sheet[refusal.place..],
     };
-    let place = usize::try_from(place).expect("a place in a paper");
-    let rest = bytes.get(place..).expect("a place in the refused paper");
     assert_eq!(rest.len() as u64, rest_length, "the length of the rest");
     Answer {
-        refusal: Some(Refusal {
-            number: number as u8,
-            paper,
-            place,
-        }),
+        refusal: Some(refusal),
         rest,
     }
 }

@@ -1,12 +1,11 @@
 //! Each slot of finder_rest, and the answer made of them, on hand-made papers.
 
 mod papers;
+mod sheets;
 
 use finder::{rest, rest_words, Answer, Paper, Refusal, SLOTS};
 use papers::{each_refused_file, FILE, PATTERN};
-
-/// The sheet of the example of document 01.
-const SHEET: &[u8] = &[0x06, 0, 2, 0, 0, 0x7F, 0, 0];
+use sheets::{each_refused_sheet, SHEET};
 
 fn words(file: &[u8], sheet: &[u8]) -> [u64; SLOTS] {
     let mut out = [PATTERN; SLOTS];
@@ -44,10 +43,6 @@ fn refused(number: u8, paper: Paper, place: usize, file: &[u8], sheet: &[u8]) {
     assert_eq!(rest(file, sheet), expected);
 }
 
-fn sheet_refused(number: u8, place: usize, sheet: &[u8]) {
-    refused(number, Paper::Sheet, place, FILE, sheet);
-}
-
 #[test]
 fn accepted_papers_give_eight_zeros_and_the_end_of_the_sheet() {
     assert_eq!(words(FILE, SHEET), [0; SLOTS]);
@@ -64,12 +59,7 @@ fn each_refusal_of_the_file() {
 
 #[test]
 fn each_refusal_of_the_sheet() {
-    sheet_refused(1, 0, &[]);
-    sheet_refused(1, 5, &SHEET[..7]);
-    sheet_refused(2, 0, FILE);
-    sheet_refused(3, 0, &[0x06, 0, 1, 0]);
-    sheet_refused(6, 0, &[0x06, 0, 2, 0, 8, 0x7F, 0, 0]);
-    sheet_refused(10, 8, &[SHEET, SHEET].concat());
+    each_refused_sheet(|number, place, sheet| refused(number, Paper::Sheet, place, FILE, sheet));
 }
 
 #[test]

@@ -32,7 +32,7 @@ refusal-words-requires c κs = search needs
 
 returns-2 : tie.Need-returns-2
 returns-2 c = let e = papers-refused (readPapers (now (c .before .before .before .before .before .before .before .before .args .file)) (now (c .before .before .before .before .before .before .before .before .args .sheet))) (c .before .before .before .before .before .read-papers .ensures) (c .before .before .before .read .given .1) in
-    rw e (c .refusal-words .ensures ∙ ap (λ (l : List ℕ). refusalWords (c .before .before .before .read .given .0 .0) (length l)) (rw e at (c .before .rest-of-paper .ensures)))
+    rw e (c .refusal-words .ensures ∙ ap (λ (l : List ℕ). refusalWords (c .before .before .before .read .given .0 .0) (length l) 0) (rw e at (c .before .rest-of-paper .ensures)))
 
 pub finder-rest-spec : {M : Type 1} → statement M
 finder-rest-spec =

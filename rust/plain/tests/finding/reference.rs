@@ -1,123 +1,72 @@
 //! The reference calls of document 01.
 
+use calls::searching::OF_NOT_P4;
+use calls::{Judging, Searching, JUDGINGS, SEARCHINGS};
 use plain::{
-    encode_dual, encode_file, judge, minimal_explanations, read_file, JudgeRefusal, Number, Paper,
-    Program, Query, Record, Refusal, State,
+    encode_dual, encode_file, encode_sheet, judge, minimal_explanations, read_file, JudgeRefusal,
+    Number, Paper, Program, Query, Record, Refusal, State,
 };
 
 use crate::hand::bytes;
 use crate::lent::{continued, judge_refused, judged, list_pattern};
 use crate::text::{program, query};
 
-/// Checks that a fresh search finds these and tries all `scenarios`, and that
-/// the definition gives the same.
-fn gives(program: &Program, query: &Query, scenarios: u32, expected: &[u32]) {
-    assert_eq!(minimal_explanations(program, query), expected);
-    let mut list = list_pattern(9);
-    let continued = continued(program, query, &mut list, Record::FRESH, u32::MAX);
-    assert_eq!(continued.tried, scenarios);
-    assert_eq!(continued.state, State::Ended);
-    assert_eq!(list[..continued.record.found as usize], *expected);
+fn loaded(source: &calls::Source, text: &str) -> (Program, Query) {
+    let program = program(source.atoms, source.abducibles, source.rules);
+    let query = query(source.atoms, text);
+    assert_eq!(encode_file(&program), source.file());
+    assert_eq!(encode_sheet(&query), source.sheet(text));
+    (program, query)
 }
 
 #[test]
-fn example_2_1() {
-    let atoms = "a b c";
-    let program = program(atoms, "", "c :- not b; b :- a; -b; a :- not a");
+fn example_2_1_as_bytes() {
     let file = "01 0001 01 02 0002 0003 03 0000 04 0004 0004 0005
         04 0004 0002 0000 04 0002 0003 04 0004 0000 0001 7F 0000";
+    let (program, query) = loaded(&calls::programs::EXAMPLE_2_1, "c");
     assert_eq!(encode_file(&program), bytes(&[file]));
-    let (judgement, model) = judged(&program, &query(atoms, "c"), 0);
-    assert_eq!(model, [0, 2, 2, 1, 1, 2, 2]);
-    assert_eq!(judgement.rounds, 3);
-    assert!(judgement.explains);
-    assert_eq!(encode_dual(&plain::dual(&program)).len(), 60);
-    assert!(!judged(&program, &query(atoms, "a"), 0).0.explains);
-    assert!(!judged(&program, &query(atoms, "not a"), 0).0.explains);
-    assert!(
-        judged(&program, &query(atoms, "c, -b, not b"), 0)
-            .0
-            .explains
-    );
+    assert_eq!(encode_sheet(&query), bytes(&["06 0002 0008 7F 0000"]));
 }
 
 #[test]
-fn example_3_1() {
-    let atoms = "s p q r";
-    let rules = "s :- not p, not q, not r;
-        p :- not s, not r, q;
-        q :- not p, r;
-        r :- not q, p";
-    let program = program(atoms, "", rules);
-    let (judgement, model) = judged(&program, &query(atoms, "s"), 0);
-    assert_eq!(model, [1, 2, 2, 2, 2, 2, 2, 2, 2]);
-    assert_eq!(judgement.rounds, 2);
-    assert!(judgement.explains);
+fn judging() {
+    for call in JUDGINGS {
+        let Judging {
+            program,
+            query,
+            scenario,
+            ..
+        } = call;
+        let (program, query) = loaded(program, query);
+        let (judgement, model) = judged(&program, &query, *scenario);
+        assert_eq!(judgement.explains, call.explains, "{call:?}");
+        assert_eq!(judgement.rounds, call.rounds, "{call:?}");
+        assert_eq!(model, call.model, "{call:?}");
+        let dual = encode_dual(&plain::dual(&program));
+        assert_eq!(dual.len(), call.dual_length, "{call:?}");
+    }
 }
 
+/// A fresh search finds these and tries all scenarios, and the definition gives
+/// the same.
 #[test]
-fn example_3_2() {
-    let atoms = "p q p* q* p_constr q_constr";
-    let rules = "p :- not q*;
-        q :- not p*;
-        p_constr :- p, -p*;
-        q_constr :- q, -q*;
-        falsum :- p_constr;
-        falsum :- q_constr";
-    let program = program(atoms, "p* q*", rules);
-    gives(&program, &query(atoms, "q"), 9, &[5]);
-}
-
-/// Figure 1 of document 001.
-mod figure_1 {
-    pub const P0: (&str, &str) = ("a b p0 q0", "p0 :- q0; p0 :- a; q0 :- p0; q0 :- b");
-    pub const P3: (&str, &str) = ("p3 q3 r3", "p3 :- q3; q3 :- not r3; r3 :- p3");
-    pub const P4: (&str, &str) = ("a b p4 q4", "p4 :- q4; q4 :- p4; q4 :- not a, not b");
-    pub const P8: (&str, &str) = ("a b p8 q8", "p8 :- not q8, a; q8 :- not p8; q8 :- b");
-    pub const P11: (&str, &str) = ("a p11 q11", "p11 :- not q11, a; q11 :- p11, not a");
-}
-
-fn loaded(figure: (&str, &str), abducibles: &str, text: &str) -> (Program, Query) {
-    let (atoms, rules) = figure;
-    (program(atoms, abducibles, rules), query(atoms, text))
-}
-
-#[test]
-fn not_p0_gives_8() {
-    let (program, query) = loaded(figure_1::P0, "a b", "not p0");
-    // Scenario 2, [not a], is none: then p0 and q0 are undefined with b.
-    gives(&program, &query, 9, &[8]);
-}
-
-#[test]
-fn not_p4_gives_1_and_3() {
-    let (program, query) = loaded(figure_1::P4, "a b", "not p4");
-    gives(&program, &query, 9, &[1, 3]);
-}
-
-#[test]
-fn q8_gives_2_and_3() {
-    let (program, query) = loaded(figure_1::P8, "a b", "q8");
-    gives(&program, &query, 9, &[2, 3]);
-}
-
-#[test]
-fn not_q11_gives_1_and_2() {
-    let (program, query) = loaded(figure_1::P11, "a", "not q11");
-    gives(&program, &query, 3, &[1, 2]);
-}
-
-#[test]
-fn p3_gives_nothing() {
-    let (program, query) = loaded(figure_1::P3, "", "p3");
-    gives(&program, &query, 1, &[]);
-    let (program, query) = loaded(figure_1::P3, "", "not p3");
-    gives(&program, &query, 1, &[]);
+fn searching() {
+    for call in SEARCHINGS {
+        let Searching { program, query, .. } = call;
+        let (program, query) = loaded(program, query);
+        assert_eq!(minimal_explanations(&program, &query), call.found);
+        let mut list = list_pattern(9);
+        let continued = continued(&program, &query, &mut list, Record::FRESH, u32::MAX);
+        assert_eq!(continued.tried, call.scenarios, "{call:?}");
+        assert_eq!(continued.state, State::Ended, "{call:?}");
+        let found = continued.record.found as usize;
+        assert_eq!(list[..found], *call.found, "{call:?}");
+    }
 }
 
 #[test]
 fn not_p4_with_a_list_of_one() {
-    let (program, query) = loaded(figure_1::P4, "a b", "not p4");
+    let (program, query) = loaded(&OF_NOT_P4.program, OF_NOT_P4.query);
     let mut list = list_pattern(1);
     let mut record = Record::FRESH;
     let mut go_on = |allowance| {
@@ -130,23 +79,6 @@ fn not_p4_with_a_list_of_one() {
     assert_eq!(go_on(5), (0, State::Full));
     assert_eq!(go_on(0), (0, State::Going));
     assert_eq!(list, [1]);
-}
-
-#[test]
-fn a_contradiction_under_an_integrity_rule_explains_nothing() {
-    let atoms = "a d";
-    let query = query(atoms, "d");
-    let with = program(atoms, "a", "d :- a; -d; falsum :- d, -d");
-    let (judgement, model) = judged(&with, &query, 1);
-    assert_eq!(model, [1, 2, 3, 3, 3]);
-    assert!(!judgement.explains);
-    gives(&with, &query, 3, &[]);
-
-    let without = program(atoms, "a", "d :- a; -d");
-    let (judgement, model) = judged(&without, &query, 1);
-    assert_eq!(model, [1, 2, 3, 3, 2]);
-    assert!(judgement.explains);
-    gives(&without, &query, 3, &[1]);
 }
 
 #[test]

@@ -1,5 +1,6 @@
 //! Continuing, by hand.
 
+use calls::searching::OF_NOT_P4;
 use plain::{
     encode_file, encode_sheet, judge, ContinueRefusal, Continued, Number, Paper, Program, Query,
     Record, Refusal, Search, State,
@@ -9,7 +10,6 @@ use crate::hand::bytes;
 use crate::lent::{continue_refused, continued, list_pattern};
 use crate::text::{program, query};
 
-const P4_ATOMS: &str = "a b p4 q4";
 /// The bytes of its dual: 08 with one fold and 09 for p4; 08 with two folds, 09
 /// with one literal and 09 with two for q4; 08 for -p4, -q4 and falsum; the end.
 const P4_DUAL_LENGTH: usize = (7 + 7) + (9 + 7 + 9) + 3 * 5 + 3;
@@ -17,9 +17,13 @@ const P4_DUAL_LENGTH: usize = (7 + 7) + (9 + 7 + 9) + 3 * 5 + 3;
 /// Figure 1 of document 001: not p4 holds exactly where a or b is assumed, so
 /// in 1, 3, 4, 5 and 7 of 9 scenarios; 1 and 3 are minimal.
 fn not_p4() -> (Program, Query) {
-    let rules = "p4 :- q4; q4 :- p4; q4 :- not a, not b";
-    let program = program(P4_ATOMS, "a b", rules);
-    (program, query(P4_ATOMS, "not p4"))
+    let calls::Source {
+        atoms,
+        abducibles,
+        rules,
+    } = OF_NOT_P4.program;
+    let program = program(atoms, abducibles, rules);
+    (program, query(atoms, OF_NOT_P4.query))
 }
 
 fn at(position: u32, found: u32) -> Record {

@@ -1,7 +1,7 @@
 -- `search::stepping::in_lane` meets its contract.
 -- Assumes nothing.
 use borrow.Author.Needs.{needs}
-use Rattle.model.specs.Lanes.{inLane}
+use Rattle.lanes.specs.Lanes.{inLane}
 use Rattle.search.proofs.stepping.in_lane.Statement.{statement}
 use Rattle.search.proofs.stepping.in_lane.Tie as tie
 

@@ -1,0 +1,66 @@
+-- `fields::content::abducibles_fault` meets its contract. The loop's invariant: what is asked of all atoms is asked of those from the i-th on.
+-- Assumes nothing.
+use borrow.Author.Needs.{needs}
+use native.Mathlib.Omega.{arith}
+use mathlib.Core.Path.{_≡_, refl, sym, _∙_}
+use Prim.Native.Nat.{_≤_, _-_, _*_}
+use lib.ListN.{drop}
+use denote.Ref.{now}
+use Rattle.papers.specs.Field.{numbers}
+use Rattle.papers.specs.Content.{abduciblesFault}
+use Rattle.papers.proofs.Walking.{abducibles-done, abducibles-unlisted, abducibles-disorder, abducibles-next}
+use Rattle.fields.proofs.content.abducibles_fault.Statement.{statement}
+use Rattle.fields.proofs.content.abducibles_fault.Tie as tie
+
+abbrev Inv-loop : tie.InvT-loop
+Inv-loop content atoms bound count least₀ i₀ least i = (i ≤ count) × (abduciblesFault atoms 0 (numbers content) ≡ abduciblesFault atoms least (numbers (drop (2 * i) content)))
+
+abbrev μ-loop : tie.MeasureT-loop
+μ-loop content atoms bound count least₀ i₀ least i = count - i
+
+loop-holds : tie.Need-loop-holds Inv-loop μ-loop
+loop-holds c = (omega arith, refl)
+
+mul-number-at : tie.Need-mul-number-at Inv-loop μ-loop
+mul-number-at c = search needs
+
+number-at-requires : tie.Need-number-at-requires Inv-loop μ-loop
+number-at-requires c κs = search needs
+
+returns : tie.Need-returns Inv-loop μ-loop
+returns c = let a = c .before .before .before .before .before .args in sym (c .before .before .before .loop .inv .1 ∙ abducibles-unlisted (now (a .content)) _ (a .atoms) (c .before .before .loop-test .taken) (c .before .number-at .ensures .0) _ (c .if1 .taken))
+
+returns-2 : tie.Need-returns-2 Inv-loop μ-loop
+returns-2 c = let a = c .before .before .before .before .before .before .args in sym (c .before .before .before .before .loop .inv .1 ∙ abducibles-disorder (now (a .content)) _ (a .atoms) (c .before .before .before .loop-test .taken) (c .before .before .number-at .ensures .0) _ (c .before .if1 .left) (c .if2 .taken))
+
+add-least : tie.Need-add-least Inv-loop μ-loop
+add-least c = search needs
+
+add-i : tie.Need-add-i Inv-loop μ-loop
+add-i c = search needs
+
+loop-less : tie.Need-loop-less Inv-loop μ-loop
+loop-less c = search needs
+
+loop-again : tie.Need-loop-again Inv-loop μ-loop
+loop-again c = let a = c .before .before .before .before .before .before .args in (omega arith, c .before .before .before .before .loop .inv .1 ∙ abducibles-next (now (a .content)) _ (a .atoms) (c .before .before .before .loop-test .taken) (c .before .before .number-at .ensures .0) _ (c .before .if1 .left) (c .if2 .left))
+
+returns-3 : tie.Need-returns-3 Inv-loop μ-loop
+returns-3 c = let a = c .before .before .before .args in sym (c .before .loop .inv .1 ∙ abducibles-done (now (a .content)) _ (a .atoms) _ (c .loop-test .left))
+
+pub abducibles-fault-spec : {M : Type 1} → statement M
+abducibles-fault-spec =
+    tie.close
+    (tie.spec
+    Inv-loop
+    μ-loop
+    loop-holds
+    mul-number-at
+    number-at-requires
+    returns
+    returns-2
+    add-least
+    add-i
+    loop-less
+    loop-again
+    returns-3)

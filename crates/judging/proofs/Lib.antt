@@ -1,0 +1,3 @@
+-- Judging from its parts.
+pub mod ValueLaws
+pub mod JudgingLaws

@@ -1,0 +1,2 @@
+-- Document 01, judging: its refusals, its answer, and what the lent buffers then hold.
+pub mod Judging

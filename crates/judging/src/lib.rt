@@ -1,0 +1,57 @@
+// Judging one scenario of two papers.
+mod accepted;
+mod values;
+
+ghost use mathlib.Core.Path.{_≡_};
+ghost use lib.ListN.{length};
+ghost use Rattle.papers.specs.Reading.{readPapers};
+ghost use Rattle.judging.specs.Judging.{judgeAnswer, dualJudged, modelJudged};
+use accepted::judge_accepted;
+use dual::DualWritten;
+use lanes::digits::scenario_count;
+use papers::PapersRead;
+use papers::Refusal;
+
+// What judging answers: verdict and rounds, or document 01's refusals 11, 12 and 13, or one of the papers'.
+pub enum Judged {
+    Verdict { explains: bool, rounds: u64 },
+    ShortDual,
+    ShortModel,
+    NoScenario,
+    Refused(Refusal),
+}
+
+pub fn judge(file: &[u8], sheet: &[u8], scenario: u32, dual: &mut [u8], model: &mut [u8]) -> Judged
+    ensures { λ r. ⌜ (r ≡ judgeAnswer (readPapers (now (file .entry)) (now (sheet .entry))) scenario (length (now (dual .entry))) (length (now (model .entry)))) × ((now (dual .exit) ≡ dualJudged (readPapers (now (file .entry)) (now (sheet .entry))) scenario (now (dual .entry)) (now (model .entry))) × (now (model .exit) ≡ modelJudged (readPapers (now (file .entry)) (now (sheet .entry))) scenario (now (dual .entry)) (now (model .entry)))) ⌝ }
+{
+    let read = reading::read_papers(file, sheet);
+    let PapersRead::Accepted(contents, literals) = read else {
+        let PapersRead::Refused(refusal) = read else {
+            return Judged::NoScenario;
+        };
+        return Judged::Refused(refusal);
+    };
+    let room = 2 * (contents.atoms as usize) < model.len();
+    let listed = scenario < scenario_count(contents.abducibles);
+    let places = folds::fold_places(file, contents);
+    let written = dual::write_accepted(file, contents, &places, dual, room & listed);
+    let DualWritten::Length(_) = written else {
+        return Judged::ShortDual;
+    };
+    if !room {
+        return Judged::ShortModel;
+    }
+    if !listed {
+        return Judged::NoScenario;
+    }
+    let end = 3 + 2 * literals;
+    judge_accepted(
+        file,
+        contents,
+        &places,
+        dual,
+        &sheet[3..end],
+        scenario,
+        model,
+    )
+}

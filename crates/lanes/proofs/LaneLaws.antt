@@ -1,0 +1,175 @@
+-- Laws of lanes: bit l of words joined and negated; two words with the same bits are one; the set of a lane.
+-- Assumes nothing.
+use mathlib.Core.Path.{_≡_, refl, sym, ap, subst, _∙_}
+use mathlib.Core.Bool.{true, false, not}
+use mathlib.Core.List.{List}
+use Prim.Native.Nat.{ℕ, zero, suc, _+_, _-_, _/_, _%_, _^_, _<_, min, max}
+use native.Mathlib.Omega.{arith}
+use native.Mathlib.Nat.{zero-div, pow-suc}
+use lib.Arith.{digits-mod, lt-one}
+use lib.Bits.{bitAnd, bitOr, bitXor, differ, and-shr, and-step, or-shr, or-step, xor-shr, xor-step, xor-add-and, and-mask}
+use lib.Dec.{eqb}
+use lib.ListN.{length, getD, replicate}
+use lib.Pow.{high, low, ones-split, ones-lt, shr-shr}
+use Rattle.model.specs.Tests.{_and_, _or_}
+use Rattle.model.specs.Sets.{has, sameFlag}
+use Rattle.lanes.specs.Lanes.{inLane, lane}
+use Rattle.model.proofs.SetLaws.{length-setOf, has-setOf}
+
+-- ---- a bit as a number
+
+unfoldable bit : ℕ → ℕ → ℕ
+bit l w = w / 2 ^ l % 2
+
+bit-lt : (l w : ℕ) → bit l w < 2
+unfolding bit
+bit-lt l w = omega arith
+
+in-bit : (l w : ℕ) → inLane l w ≡ eqb (bit l w) 1
+unfolding inLane bit
+in-bit l w = refl
+
+bit-and : (l a b : ℕ) → bit l (bitAnd a b) ≡ min (bit l a) (bit l b)
+unfolding bit
+bit-and l a b =
+    ap (λ (x : ℕ). x % 2) (and-shr a b l ∙ and-step (a / 2 ^ l) (b / 2 ^ l))
+    ∙ digits-mod (bitAnd (a / 2 ^ l / 2) (b / 2 ^ l / 2)) {m = 2} {r = min (a / 2 ^ l % 2) (b / 2 ^ l % 2)} (omega arith)
+
+bit-or : (l a b : ℕ) → bit l (bitOr a b) ≡ max (bit l a) (bit l b)
+unfolding bit
+bit-or l a b =
+    ap (λ (x : ℕ). x % 2) (or-shr a b l ∙ or-step (a / 2 ^ l) (b / 2 ^ l))
+    ∙ digits-mod (bitOr (a / 2 ^ l / 2) (b / 2 ^ l / 2)) {m = 2} {r = max (a / 2 ^ l % 2) (b / 2 ^ l % 2)} (omega arith)
+
+differ-lt : (a b : ℕ) → a < 2 → b < 2 → differ a b < 2
+differ-lt zero b h k = k
+differ-lt (suc zero) zero h k = h
+differ-lt (suc zero) (suc b) h k = omega arith
+differ-lt (suc (suc a)) b h k = absurd (omega arith)
+
+bit-xor : (l a b : ℕ) → bit l (bitXor a b) ≡ differ (bit l a) (bit l b)
+unfolding bit
+bit-xor l a b =
+    ap (λ (x : ℕ). x % 2) (xor-shr a b l ∙ xor-step (a / 2 ^ l) (b / 2 ^ l))
+    ∙ digits-mod (bitXor (a / 2 ^ l / 2) (b / 2 ^ l / 2)) {m = 2} {r = differ (a / 2 ^ l % 2) (b / 2 ^ l % 2)}
+    (differ-lt (a / 2 ^ l % 2) (b / 2 ^ l % 2) (omega arith) (omega arith))
+
+bit-ones : (k m : ℕ) → bit k (2 ^ (m + 1 + k) - 1) ≡ 1
+unfolding bit
+bit-ones k m =
+    ap (λ (x : ℕ). x / 2 ^ k % 2) (ones-split (m + 1) k)
+    ∙ ap (λ (x : ℕ). x % 2) (high (2 ^ (m + 1) - 1) k (ones-lt k))
+    ∙ ap (λ (x : ℕ). x % 2) (ones-split m 1)
+    ∙ low (2 ^ m - 1) 1 {lo = 1} (omega arith)
+
+bit-full : (l : ℕ) → l < 64 → bit l 18446744073709551615 ≡ 1
+bit-full l h = let e : 63 - l + 1 + l ≡ 64 = omega arith in subst (λ (n : ℕ). bit l (2 ^ n - 1) ≡ 1) e (bit-ones l (63 - l))
+
+-- ---- in a lane
+
+module _ (l a b : ℕ) where
+  pub lane-and : inLane l (bitAnd a b) ≡ (inLane l a and inLane l b)
+  unfolding inLane bit _and_
+  lane-and = ap (λ (x : ℕ). eqb x 1) (bit-and l a b) ∙ go (bit l a) (bit l b) (bit-lt l a) (bit-lt l b) where
+    go : (x y : ℕ) → x < 2 → y < 2 → eqb (min x y) 1 ≡ (eqb x 1 and eqb y 1)
+    go zero zero h k = refl
+    go zero (suc zero) h k = refl
+    go zero (suc (suc y)) h k = absurd (omega arith)
+    go (suc zero) zero h k = refl
+    go (suc zero) (suc zero) h k = refl
+    go (suc zero) (suc (suc y)) h k = absurd (omega arith)
+    go (suc (suc x)) y h k = absurd (omega arith)
+
+  pub lane-or : inLane l (bitOr a b) ≡ (inLane l a or inLane l b)
+  unfolding inLane bit _or_
+  lane-or = ap (λ (x : ℕ). eqb x 1) (bit-or l a b) ∙ go (bit l a) (bit l b) (bit-lt l a) (bit-lt l b) where
+    go : (x y : ℕ) → x < 2 → y < 2 → eqb (max x y) 1 ≡ (eqb x 1 or eqb y 1)
+    go zero zero h k = refl
+    go zero (suc zero) h k = refl
+    go zero (suc (suc y)) h k = absurd (omega arith)
+    go (suc zero) zero h k = refl
+    go (suc zero) (suc zero) h k = refl
+    go (suc zero) (suc (suc y)) h k = absurd (omega arith)
+    go (suc (suc x)) y h k = absurd (omega arith)
+
+-- Where two words differ.
+differ-flags : (a b : ℕ) → a < 2 → b < 2 → eqb (differ a b) 1 ≡ not (sameFlag (eqb a 1) (eqb b 1))
+unfolding sameFlag
+differ-flags zero zero h k = refl
+differ-flags zero (suc zero) h k = refl
+differ-flags zero (suc (suc b)) h k = absurd (omega arith)
+differ-flags (suc zero) zero h k = refl
+differ-flags (suc zero) (suc zero) h k = refl
+differ-flags (suc zero) (suc (suc b)) h k = absurd (omega arith)
+differ-flags (suc (suc a)) b h k = absurd (omega arith)
+
+pub lane-xor : (l a b : ℕ) → inLane l (bitXor a b) ≡ not (sameFlag (inLane l a) (inLane l b))
+lane-xor l a b = rw (in-bit, in-bit, in-bit, bit-xor) (differ-flags (bit l a) (bit l b) (bit-lt l a) (bit-lt l b))
+
+pub lane-full : (l : ℕ) → l < 64 → inLane l 18446744073709551615 ≡ true
+lane-full l h = in-bit l 18446744073709551615 ∙ rw (bit-full l h)
+
+pub lane-none : (l : ℕ) → inLane l 0 ≡ false
+unfolding inLane
+lane-none l = ap (λ (x : ℕ). eqb (x % 2) 1) (zero-div (2 ^ l))
+
+-- A row of zeros.
+pub zeros : (n o : ℕ) → _≡_ {A = ℕ} (getD (replicate n 0) o 0) 0
+zeros zero o = refl
+zeros (suc n) zero = refl
+zeros (suc n) (suc o) = zeros n o
+
+-- `!x` is what x lacks of the full word.
+pub lane-not : (l x : ℕ) → l < 64 → x < 18446744073709551616 → inLane l (18446744073709551615 - x) ≡ not (inLane l x)
+unfolding inLane bit
+lane-not l x h k =
+    let m : bitAnd x 18446744073709551615 ≡ x % 18446744073709551616 = and-mask x 64 in
+    let e : 18446744073709551615 - x ≡ bitXor x 18446744073709551615 = omega (arith, xor-add-and x 18446744073709551615) in
+    let f : bit l (18446744073709551615 - x) ≡ differ (bit l x) 1 = ap (bit l) e ∙ bit-xor l x 18446744073709551615 ∙ ap (differ (bit l x)) (bit-full l h) in
+    ap (λ (y : ℕ). eqb y 1) f ∙ go (bit l x) (bit-lt l x) where
+      go : (y : ℕ) → y < 2 → eqb (differ y 1) 1 ≡ not (eqb y 1)
+      go zero h = refl
+      go (suc zero) h = refl
+      go (suc (suc y)) h = absurd (omega arith)
+
+-- ---- words with the same bits
+
+bit-suc : (l x : ℕ) → bit (suc l) x ≡ bit l (x / 2)
+unfolding bit
+bit-suc l x = let e : suc l ≡ 1 + l = omega arith in ap (λ (n : ℕ). x / 2 ^ n % 2) e ∙ ap (λ (y : ℕ). y % 2) (sym (shr-shr x 1 l))
+
+lowest : (x : ℕ) → x % 2 ≡ bit 0 x
+unfolding bit
+lowest x = omega arith
+
+bits-same : (n a b : ℕ) → a < 2 ^ n → b < 2 ^ n → ((l : ℕ) → l < n → bit l a ≡ bit l b) → a ≡ b
+bits-same zero a b h k e = lt-one h ∙ sym (lt-one k)
+bits-same (suc n) a b h k e =
+    let p = pow-suc 2 n in
+    let high : a / 2 ≡ b / 2 = bits-same n (a / 2) (b / 2) (omega arith) (omega arith) (λ l m. sym (bit-suc l a) ∙ e (suc l) (omega arith) ∙ bit-suc l b) in
+    let low : a % 2 ≡ b % 2 = lowest a ∙ e 0 (omega arith) ∙ sym (lowest b) in
+    omega arith
+
+same-flag : (x y : ℕ) → x < 2 → y < 2 → eqb x 1 ≡ eqb y 1 → x ≡ y
+same-flag zero zero h k e = refl
+same-flag zero (suc zero) h k e = absurd (let z : _≡_ {A = ℕ} 0 1 = cc in omega arith)
+same-flag zero (suc (suc y)) h k e = absurd (omega arith)
+same-flag (suc zero) zero h k e = absurd (let z : _≡_ {A = ℕ} 0 1 = cc in omega arith)
+same-flag (suc zero) (suc zero) h k e = refl
+same-flag (suc zero) (suc (suc y)) h k e = absurd (omega arith)
+same-flag (suc (suc x)) y h k e = absurd (omega arith)
+
+pub words-same : (a b : ℕ) → a < 2 ^ 64 → b < 2 ^ 64 → ((l : ℕ) → l < 64 → inLane l a ≡ inLane l b) → a ≡ b
+words-same a b h k e =
+    bits-same 64 a b h k
+    (λ l m. same-flag (bit l a) (bit l b) (bit-lt l a) (bit-lt l b) (sym (in-bit l a) ∙ e l m ∙ in-bit l b))
+
+-- ---- the set of a lane
+
+pub sized : (n l : ℕ) (words : List ℕ) → length (lane n l words) ≡ n
+unfolding lane
+sized n l words = length-setOf _ n
+
+pub has-lane : (n l o : ℕ) (words : List ℕ) → o < n → has (lane n l words) o ≡ inLane l (getD words o 0)
+unfolding lane
+has-lane n l o words h = has-setOf _ n o h

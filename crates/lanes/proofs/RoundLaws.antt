@@ -1,0 +1,48 @@
+-- A round in sixty-four scenarios at once, from its parts.
+-- Assumes nothing.
+use mathlib.Core.Path.{_≡_, refl, sym, ap, _∙_}
+use mathlib.Core.Bool.{Bool, true, false, cond}
+use mathlib.Core.List.{List}
+use Prim.Native.Nat.{ℕ, _+_, _*_, _<_}
+use native.Mathlib.Omega.{arith}
+use borrow.Author.Tests.{ltb-true}
+use lib.ListN.{getD}
+use Rattle.literals.specs.Numbering.{explicitConjugate, judged, listed}
+use Rattle.literals.proofs.Laws.{explicit-below}
+use Rattle.papers.specs.Program.{Program}
+use Rattle.model.specs.Tests.{_and_, _or_}
+use Rattle.model.specs.Sets.{has}
+use Rattle.model.specs.Scenarios.{trueAbducible, falseAbducible, trueAbducibles}
+use Rattle.model.specs.Model.{conjugateIn}
+use Rattle.lanes.specs.Lanes.{inLane, lane, backingWord, BackingWords, AbducibleLanes}
+use Rattle.model.proofs.TestLaws.{true-and, false-and}
+use Rattle.model.proofs.SetLaws.{length-setOf, set-ext}
+use Rattle.model.proofs.ScenarioLaws.{has-true}
+use Rattle.lanes.proofs.LaneLaws.{lane-or, lane-none, has-lane, sized}
+
+-- The true abducible literals, in each lane.
+pub seed-lane : (p : Program) (base l : ℕ) (trues falses : List ℕ) → l < 64 → AbducibleLanes p base trues falses
+    → lane (judged (p .atoms)) l trues ≡ trueAbducibles p (base + l)
+unfolding trueAbducibles
+seed-lane p base l trues falses h a =
+    set-ext (judged (p .atoms)) (lane (judged (p .atoms)) l trues) (trueAbducibles p (base + l)) (sized (judged (p .atoms)) l trues)
+    (length-setOf (trueAbducible p (base + l)) (judged (p .atoms)))
+    (λ o k. has-lane (judged (p .atoms)) l o trues k ∙ a .true-at l o h ∙ sym (has-true p (base + l) o k))
+
+-- What backs a literal besides its rules, in each lane.
+pub backing-lane : (p : Program) (base l : ℕ) (trues falses truth backing : List ℕ) → l < 64 → AbducibleLanes p base trues falses
+    → BackingWords (p .atoms) truth falses backing → (o : ℕ) → o < judged (p .atoms)
+    → inLane l (getD backing o 0) ≡ (conjugateIn (p .atoms) (lane (judged (p .atoms)) l truth) o or falseAbducible p (base + l) o)
+unfolding backingWord conjugateIn
+backing-lane p base l trues falses truth backing h a b o k =
+    ap (inLane l) (b .at o k)
+    ∙ lane-or l (cond (listed (p .atoms) o) (getD truth (explicitConjugate o) 0) 0) (getD falses o 0)
+    ∙ ap (λ (x : Bool). inLane l (cond (listed (p .atoms) o) (getD truth (explicitConjugate o) 0) 0) or x) (a .false-at l o h)
+    ∙ ap (λ (x : Bool). x or falseAbducible p (base + l) o) (go (listed (p .atoms) o) refl)
+  where
+    go : (t : Bool) → listed (p .atoms) o ≡ t
+        → inLane l (cond t (getD truth (explicitConjugate o) 0) 0) ≡ (t and has (lane (judged (p .atoms)) l truth) (explicitConjugate o))
+    go true e =
+        let below = explicit-below (p .atoms) o (ltb-true o (2 * p .atoms) e) in
+        sym (has-lane (judged (p .atoms)) l (explicitConjugate o) truth (omega arith)) ∙ sym (true-and (has (lane (judged (p .atoms)) l truth) (explicitConjugate o)))
+    go false e = lane-none l ∙ sym (false-and (has (lane (judged (p .atoms)) l truth) (explicitConjugate o)))

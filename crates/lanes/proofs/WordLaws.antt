@@ -1,0 +1,100 @@
+-- Laws of a literal's word and of a body's, as the code that reads them meets them.
+-- Assumes nothing.
+use mathlib.Core.Path.{_≡_, refl, sym, ap, _∙_}
+use mathlib.Core.Bool.{Bool, true, false, cond}
+use mathlib.Core.List.{List, _∷_}
+use Prim.Native.Nat.{ℕ, _+_, _*_, _/_, _%_, _≤_, _<_}
+use native.Mathlib.Omega.{arith}
+use borrow.Author.Tests.{eq-eqb, ne-eqb}
+use lib.Bits.{bitAnd}
+use lib.ListN.{length, getD, drop}
+use Rattle.literals.specs.Numbering.{defaultNegated}
+use Rattle.papers.specs.Field.{number, numbers}
+use Rattle.papers.specs.Valid.{All, each}
+use Rattle.papers.proofs.Walking.{no-number, next-number}
+use Rattle.model.specs.Tests.{_and_}
+use Rattle.model.specs.Sets.{has}
+use Rattle.model.specs.LeastSet.{literalHolds, bodyHolds}
+use Rattle.lanes.specs.Lanes.{inLane, lane}
+use Rattle.lanes.specs.Words.{wordOf, Literals, BodyWord}
+use Rattle.model.proofs.TestLaws.{true-and}
+use Rattle.lanes.proofs.LaneLaws.{lane-and, lane-full, has-lane}
+
+-- ---- a literal
+
+pub word-negated : (l : ℕ) (set negated : List ℕ) → l % 2 ≡ 1 → getD negated (l / 2) 0 ≡ wordOf l set negated
+unfolding wordOf
+word-negated l set negated e = rw (eq-eqb (l % 2) 1 e)
+
+pub word-bare : (l : ℕ) (set negated : List ℕ) → (l % 2 ≡ 1 → ⊥) → getD set (l / 2) 0 ≡ wordOf l set negated
+unfolding wordOf
+word-bare l set negated e = rw (ne-eqb (l % 2) 1 e)
+
+pub word-holds : (n x : ℕ) (set negated : List ℕ) → x < 2 * n → (l : ℕ) → inLane l (wordOf x set negated) ≡ literalHolds (lane n l set) (lane n l negated) x
+unfolding wordOf literalHolds
+word-holds n x set negated h l = go (defaultNegated x) where
+  go : (b : Bool) → inLane l (cond b (getD negated (x / 2) 0) (getD set (x / 2) 0)) ≡ cond b (has (lane n l negated) (x / 2)) (has (lane n l set) (x / 2))
+  go true = sym (has-lane n l (x / 2) negated (omega arith))
+  go false = sym (has-lane n l (x / 2) set (omega arith))
+
+-- ---- a body
+
+and-assoc : (a b c : Bool) → ((a and b) and c) ≡ (a and (b and c))
+unfolding _and_
+and-assoc true b c = refl
+and-assoc false b c = refl
+
+and-true : (a : Bool) → (a and true) ≡ a
+unfolding _and_
+and-true true = refl
+and-true false = refl
+
+-- A walk over a body: it holds in the lanes of the word in which the literals from the i-th on hold.
+pub record WordTo (i : ℕ) (body set negated : List ℕ) (word : ℕ) : Type 0 where
+  pub rest : (n : ℕ) → Literals n (numbers body) → Literals n (numbers (drop (2 * i) body))
+  pub in-lane : (n : ℕ) → Literals n (numbers body) → (l : ℕ) → l < 64
+      → bodyHolds (lane n l set) (lane n l negated) (numbers body)
+      ≡ (inLane l word and bodyHolds (lane n l set) (lane n l negated) (numbers (drop (2 * i) body)))
+
+all-first : {P : ℕ → Type 0} {x : ℕ} {more : List ℕ} → All P (x ∷ more) → P x
+all-first (each p rest) = p
+
+all-more : {P : ℕ → Type 0} {x : ℕ} {more : List ℕ} → All P (x ∷ more) → All P more
+all-more (each p rest) = rest
+
+literals-first : {n x : ℕ} {more : List ℕ} → Literals n (x ∷ more) → x < 2 * n
+literals-first h = all-first (h .below)
+
+literals-more : {n x : ℕ} {more : List ℕ} → Literals n (x ∷ more) → Literals n more
+literals-more h = record { below = all-more (h .below) }
+
+module _ (body set negated : List ℕ) where
+  pub word-starts : WordTo 0 body set negated 18446744073709551615
+  word-starts = record {
+    rest = λ n h. h;
+    in-lane = λ n h l k. sym (rw (lane-full l k) (true-and _));
+  }
+
+  module _ (i word : ℕ) (so-far : WordTo i body set negated word) where
+    pub word-ends : length body / 2 ≤ i → BodyWord (numbers body) set negated word
+    unfolding bodyHolds
+    word-ends e = record {
+      in-lane = λ n h l k. sym (so-far .in-lane n h l k ∙ rw (no-number body i e) (and-true (inLane l word)));
+    }
+
+    module _ (here : i < length body / 2) {x : ℕ} (is : x ≡ number (getD body (2 * i) 0) (getD body (2 * i + 1) 0)) where
+      one : numbers (drop (2 * i) body) ≡ x ∷ numbers (drop (2 * (i + 1)) body)
+      one = next-number body i here ∙ ap (λ (y : ℕ). y ∷ numbers (drop (2 * (i + 1)) body)) (sym is)
+
+      pub literal-below : (n : ℕ) → Literals n (numbers body) → x < 2 * n
+      literal-below n h = literals-first (rw one at (so-far .rest n h))
+
+      pub word-goes-on : WordTo (i + 1) body set negated (bitAnd word (wordOf x set negated))
+      unfolding bodyHolds
+      word-goes-on = record {
+        rest = λ n h. literals-more (rw one at (so-far .rest n h));
+        in-lane = λ n h l k.
+            so-far .in-lane n h l k
+            ∙ rw (one, lane-and l word (wordOf x set negated), word-holds n x set negated (literal-below n h) l)
+            (sym (and-assoc (inLane l word) (literalHolds (lane n l set) (lane n l negated) x) _));
+      }

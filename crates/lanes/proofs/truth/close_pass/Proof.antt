@@ -1,0 +1,70 @@
+-- `lanes::truth::close_pass` meets its contract. The loop's invariant: the rules passed have been put to use, one after the other.
+-- Assumes nothing.
+use mathlib.Core.Path.{_≡_}
+use mathlib.Core.Logic.{⊎-elim}
+use Prim.Native.Nat.{_-_, _≤_}
+use native.Mathlib.Omega.{arith}
+use denote.Ref.{now}
+use lib.ListN.{length}
+use Rattle.papers.specs.Program.{allRules}
+use Rattle.papers.specs.Reading.{programIn}
+use Rattle.papers.proofs.FoldAnswers.{rules-counted, few-folds}
+use Rattle.lanes.specs.Closing.{Passed, begun}
+use Rattle.lanes.proofs.ClosingLaws.{then-changed, then-kept}
+use Rattle.lanes.proofs.truth.close_pass.Statement.{statement}
+use Rattle.lanes.proofs.truth.close_pass.Tie as tie
+
+abbrev Inv-loop : tie.InvT-loop
+Inv-loop file contents places truth₀ falses count changed₀ fold₀ truth changed fold =
+    (fold ≤ count) × ((count ≡ length (allRules (programIn file))) × Passed (allRules (programIn file)) falses truth₀ fold truth changed)
+
+abbrev μ-loop : tie.MeasureT-loop
+μ-loop file contents places truth₀ falses count changed₀ fold₀ truth changed fold = count - fold
+
+add-count : tie.Need-add-count Inv-loop μ-loop
+add-count c = let a = c .before .before .before .before .before .args in omega (arith, few-folds (now (a .file)) (a .contents) (c .before .before .before .before .before .pre .answer))
+
+loop-holds : tie.Need-loop-holds Inv-loop μ-loop
+loop-holds c = let a = c .before .before .before .before .before .args in (omega arith, (rules-counted (now (a .file)) (a .contents) (c .before .before .before .before .before .pre .answer), begun))
+
+close-rule-requires : tie.Need-close-rule-requires Inv-loop μ-loop
+close-rule-requires c κs = (c .before .before .before .before .before .before .before .before .pre, omega arith)
+
+add-fold : tie.Need-add-fold Inv-loop μ-loop
+add-fold c = let a = c .before .before .before .before .before .before .before .before .before .before .args in omega (arith, few-folds (now (a .file)) (a .contents) (c .before .before .before .before .before .before .before .before .before .before .pre .answer))
+
+loop-less : tie.Need-loop-less Inv-loop μ-loop
+loop-less c = omega arith
+
+loop-again : tie.Need-loop-again Inv-loop μ-loop
+loop-again c =
+    let inv = c .before .before .before .before .loop .inv in (
+      omega arith,
+      (
+        inv .1 .0,
+        ⊎-elim
+            (λ w. rw (w .1) (then-changed (inv .1 .1) (c .before .close-rule .ensures) (w .0 .taken)))
+            (λ w. rw (w .1) (then-kept (inv .1 .1) (c .before .close-rule .ensures) (w .0 .left)))
+            (c .if1 .came),
+      ),
+    )
+
+returns : tie.Need-returns Inv-loop μ-loop
+returns c =
+    let inv = c .before .loop .inv in
+    let e : c .before .loop .fold ≡ length (allRules (programIn (now (c .before .before .before .before .before .before .before .args .file)))) = omega arith in
+    rw e at (inv .1 .1)
+
+pub close-pass-spec : {M : Type 1} → statement M
+close-pass-spec =
+    tie.close
+    (tie.spec
+    Inv-loop
+    μ-loop
+    add-count
+    loop-holds
+    close-rule-requires
+    add-fold
+    loop-less
+    loop-again
+    returns)

@@ -1,0 +1,27 @@
+-- Sixty-four scenarios at once: the word of a literal, and that of a body.
+use mathlib.Core.Path.{_≡_}
+use mathlib.Core.Bool.{cond}
+use mathlib.Core.List.{List}
+use Prim.Native.Nat.{ℕ, _*_, _<_}
+use lib.ListN.{length, getD}
+use Rattle.literals.specs.Numbering.{objectiveNumber, defaultNegated}
+use Rattle.papers.specs.Valid.{All}
+use Rattle.model.specs.LeastSet.{bodyHolds}
+use Rattle.lanes.specs.Lanes.{inLane, lane}
+
+-- The lanes in which literal l holds: those of o in `set`, of not(g) those of g in `negated`.
+unfoldable pub wordOf : ℕ → List ℕ → List ℕ → ℕ
+wordOf l set negated = cond (defaultNegated l) (getD negated (objectiveNumber l) 0) (getD set (objectiveNumber l) 0)
+
+-- Each literal is one of n objective literals or its default negation.
+pub record Literals (n : ℕ) (body : List ℕ) : Type 0 where
+  pub below : All (_< 2 * n) body
+
+-- A body's word: the lanes in which it holds, of however many objective literals it speaks.
+pub record BodyWord (body set negated : List ℕ) (word : ℕ) : Type 0 where
+  pub in-lane : (n : ℕ) → Literals n body → (l : ℕ) → l < 64 → inLane l word ≡ bodyHolds (lane n l set) (lane n l negated) body
+
+-- What the type of an array of words says: a word for each judged literal that a file can have, each of 64 lanes.
+pub record Laned (words : List ℕ) : Type 0 where
+  pub many : length words ≡ 513
+  pub fits : (o : ℕ) → getD words o 0 < 18446744073709551616

@@ -1,0 +1,123 @@
+// Rounds: T, P and F of 64 scenarios, from one pair to the next.
+ghost use mathlib.Core.Path.{_≡_};
+ghost use mathlib.Core.Bool.{cond};
+ghost use Prim.Native.Nat.{_<_};
+ghost use Rattle.papers.specs.Reading.{programIn};
+ghost use Rattle.papers.specs.Places.{Walked};
+ghost use Rattle.lanes.specs.FalseWords.{DualStarts};
+ghost use Rattle.lanes.specs.Lanes.{inLane};
+ghost use Rattle.lanes.specs.RoundLanes.{ComplementWords, NextRound, MarkedLanes, SettledLanes};
+use crate::backing::backing_words;
+use crate::changes::changed_lanes;
+use crate::digits::abducible_lanes;
+use crate::falsity::close_false;
+use crate::truth::close_true;
+use papers::Contents;
+
+// The sets of 64 scenarios, a word for each judged literal; P is what F leaves.
+pub struct Model {
+    pub t: [u64; 513],
+    pub p: [u64; 513],
+    pub f: [u64; 513],
+}
+
+// All words of a row with their other lanes.
+fn complement_words(words: &[u64; 513]) -> [u64; 513]
+    ensures { λ r. ⌜ ComplementWords (now (words .entry)) r ⌝ }
+{
+    let mut after = [0u64; 513];
+    let mut o: usize = 0;
+    while o < 513 {
+        after[o] = !words[o];
+        o += 1;
+    }
+    after
+}
+
+// The next round: T from the file's rules and F(j), F from the dual and T(j).
+pub(crate) fn next_round(
+    file: &[u8],
+    contents: Contents,
+    places: &[usize; 1280],
+    dual: &[u8],
+    trues: &[u64; 513],
+    falses: &[u64; 513],
+    before: Model,
+) -> Model
+    requires { ⌜ Walked (now file) contents (now places) × DualStarts (programIn (now file)) (now dual) ⌝ }
+    ensures { λ r. ⌜ NextRound (programIn (now (file .entry))) (now (trues .entry)) (now (falses .entry)) (before .t) (before .f) (r .t) (r .f) × ComplementWords (r .f) (r .p) ⌝ }
+{
+    let held = before.t;
+    let failed = before.f;
+    let mut t = *trues;
+    close_true(file, contents, places, &mut t, &failed);
+    let backing = backing_words(&held, falses, contents.atoms);
+    let count = 2 * (contents.atoms as usize) + 1;
+    let mut f = [0u64; 513];
+    close_false(file, dual, count, &held, &backing, &mut f);
+    let p = complement_words(&f);
+    Model { t, p, f }
+}
+
+// One of two numbers, by a lane of a word.
+fn by_lane(word: u64, lane: usize, set: u64, clear: u64) -> u64
+    requires { ⌜ lane < 64 ⌝ }
+    ensures { λ r. ⌜ r ≡ cond (inLane lane word) set clear ⌝ }
+{
+    if (word >> lane) % 2 == 1 { set } else { clear }
+}
+
+// A number noted for each lane of a word.
+fn mark_lanes(word: u64, number: u64, before: [u64; 64]) -> [u64; 64]
+    ensures { λ r. ⌜ MarkedLanes word number before r ⌝ }
+{
+    let mut marked = [0u64; 64];
+    let mut lane: usize = 0;
+    while lane < 64 {
+        marked[lane] = by_lane(word, lane, number, before[lane]);
+        lane += 1;
+    }
+    marked
+}
+
+// The models of 64 scenarios, and the round count of each.
+pub struct Settled {
+    pub model: Model,
+    pub rounds: [u64; 64],
+}
+
+// From J0, round after round until one changes no lane. A lane's round count is the last round that changed it.
+pub fn settle(
+    file: &[u8],
+    contents: Contents,
+    places: &[usize; 1280],
+    dual: &[u8],
+    base: u64,
+) -> Settled
+    requires { ⌜ Walked (now file) contents (now places) × (DualStarts (programIn (now file)) (now dual) × (base < 4294967296)) ⌝ }
+    ensures { λ r. ⌜ SettledLanes (programIn (now (file .entry))) base (r .model .t) (r .model .f) (r .rounds) × ComplementWords (r .model .f) (r .model .p) ⌝ }
+{
+    let seeds = abducible_lanes(file, contents, base);
+    let trues = seeds.trues;
+    let falses = seeds.falses;
+    let count = 2 * (contents.atoms as usize) + 1;
+    let mut model = Model {
+        t: [0; 513],
+        p: [18446744073709551615; 513],
+        f: [0; 513],
+    };
+    let mut rounds = [0u64; 64];
+    let mut round: u64 = 0;
+    let mut going = true;
+    while going {
+        let next = next_round(file, contents, places, dual, &trues, &falses, model);
+        let changed = changed_lanes(&model.t, &next.t, count)
+            | changed_lanes(&model.f, &next.f, count);
+        round += 1;
+        let marked = mark_lanes(changed, round, rounds);
+        rounds = marked;
+        model = next;
+        going = changed != 0;
+    }
+    Settled { model, rounds }
+}

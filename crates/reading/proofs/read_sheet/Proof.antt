@@ -1,0 +1,103 @@
+-- `reading::read_sheet` meets its contract.
+-- Assumes nothing.
+use mathlib.Core.Path.{_≡_, sym, ap, _∙_}
+use mathlib.Core.Bool.{false}
+use Prim.Native.Nat.{ℕ, _+_, _-_, _/_}
+use native.Mathlib.Omega.{arith}
+use lib.ListN.{length, take, drop}
+use denote.Ref.{now}
+use Rattle.papers.specs.declared.Paper.the-variants.{Sheet}
+use Rattle.papers.specs.declared.NumberRead.the-variants.{Number}
+use Rattle.papers.specs.Reading.{readSheet}
+use Rattle.papers.proofs.Got.{Got, got-content, got-refused}
+use Rattle.papers.proofs.Answered.{number-accepted, number-refused}
+use Rattle.papers.proofs.FileAnswers.{sheet-fault, sheet-end, sheet-query}
+use borrow.Author.Needs.{needs}
+use Rattle.reading.proofs.read_sheet.Statement.{statement}
+use Rattle.reading.proofs.read_sheet.Tie as tie
+
+-- The field is whole.
+field : (c : tie.After-known-told) → Got Sheet 0x06 false 0 (now (c .before .before .before .before .before .args .sheet)) (c .before .got .given .0 .0) (c .before .got .given .0 .1 .0)
+field c = got-content Sheet 0x06 false 0 (now (c .before .before .before .before .before .args .sheet)) (c .before .before .before .read-field .ensures) _ _ (c .before .got .given .1)
+
+-- It ends where the next one is read.
+ends : (c : tie.After-known-told) → c .before .got .given .0 .1 .0 ≡ 3 + length (take (c .before .got .given .0 .1 .0 - c .before .got .given .0 .0) (drop (c .before .got .given .0 .0) (now (c .before .before .before .before .before .args .sheet))))
+ends c = let f = field c in omega (arith, f .starts, f .sized, f .ordered)
+
+read-field-requires : tie.Need-read-field-requires
+read-field-requires c κs = search needs
+
+enum-known-got : tie.Need-enum-known-got
+enum-known-got c = search needs
+
+enum-known-got-2 : tie.Need-enum-known-got-2
+enum-known-got-2 c = search needs
+
+enum-known-got-3 : tie.Need-enum-known-got-3
+enum-known-got-3 c = search needs
+
+enum-told : tie.Need-enum-told
+enum-told c = search needs
+
+returns : tie.Need-returns
+returns c = search needs
+
+returns-2 : tie.Need-returns-2
+unfolding readSheet
+returns-2 c = rw (got-refused Sheet 0x06 false 0 (now (c .before .before .before .before .before .before .before .before .args .sheet)) (c .before .before .before .before .before .before .read-field .ensures) (c .before .before .before .before .got2 .given .1 ∙ c .before .got3 .given .1))
+
+sub-literals-fault : tie.Need-sub-literals-fault
+sub-literals-fault c = omega (arith, field c .ordered)
+
+part-literals-fault-start : tie.Need-part-literals-fault-start
+part-literals-fault-start c = omega (arith, field c .ordered)
+
+part-literals-fault-end : tie.Need-part-literals-fault-end
+part-literals-fault-end c = omega (arith, field c .within)
+
+literals-fault-requires : tie.Need-literals-fault-requires
+literals-fault-requires c κs = search needs
+
+returns-3 : tie.Need-returns-3
+returns-3 c = sheet-fault (c .before .before .before .before .before .before .before .before .args .atoms) (now (c .before .before .before .before .before .before .before .before .args .sheet)) _ (field (c .before .before .before) .read) (c .before .literals-fault .ensures) (c .if1 .taken)
+
+read-end-requires : tie.Need-read-end-requires
+read-end-requires c κs = field (c .before .before .before) .within
+
+enum-told-2 : tie.Need-enum-told-2
+enum-told-2 c = search needs
+
+enum-told-3 : tie.Need-enum-told-3
+enum-told-3 c = search needs
+
+returns-4 : tie.Need-returns-4
+returns-4 c = c .enum-told3 .given .1 ∙ sheet-end (c .before .before .before .before .before .before .before .before .before .before .before .args .atoms) (now (c .before .before .before .before .before .before .before .before .before .before .before .args .sheet)) _ (field (c .before .before .before .before .before .before) .read) (c .before .before .before .before .literals-fault .ensures) (c .before .before .before .if1 .left) (ends (c .before .before .before .before .before .before)) (number-refused _ (c .before .before .read-end .ensures) (c .enum-told3 .given .1))
+
+sub-t11 : tie.Need-sub-t11
+sub-t11 c = omega (arith, field (c .before .before .before .before .before .before) .ordered)
+
+returns-5 : tie.Need-returns-5
+returns-5 c = ap (λ (k : ℕ). Number (k / 2)) (sym (field (c .before .before .before .before .before .before) .sized)) ∙ sheet-query (c .before .before .before .before .before .before .before .before .before .before .before .args .atoms) (now (c .before .before .before .before .before .before .before .before .before .before .before .args .sheet)) _ (field (c .before .before .before .before .before .before) .read) (c .before .before .before .before .literals-fault .ensures) (c .before .before .before .if1 .left) (ends (c .before .before .before .before .before .before)) (number-accepted _ (c .before .before .read-end .ensures) (c .enum-told2 .given .1))
+
+pub read-sheet-spec : {M : Type 1} → statement M
+read-sheet-spec =
+    tie.close
+    (tie.spec
+    read-field-requires
+    enum-known-got
+    enum-known-got-2
+    enum-known-got-3
+    enum-told
+    returns
+    returns-2
+    sub-literals-fault
+    part-literals-fault-start
+    part-literals-fault-end
+    literals-fault-requires
+    returns-3
+    read-end-requires
+    enum-told-2
+    enum-told-3
+    returns-4
+    sub-t11
+    returns-5)

@@ -1,0 +1,59 @@
+-- `reading::rest_of_paper` meets its contract.
+-- Assumes nothing.
+use mathlib.Core.Path.{_∙_}
+use denote.Ref.{now}
+use lib.Seq.{drop-length}
+use Rattle.papers.specs.Reading.{readPapers}
+use Rattle.papers.proofs.Answered.{papers-accepted, papers-refused}
+use borrow.Author.Needs.{needs}
+use Rattle.reading.proofs.rest_of_paper.Statement.{statement}
+use Rattle.reading.proofs.rest_of_paper.Tie as tie
+
+read-papers-requires : tie.Need-read-papers-requires
+read-papers-requires c κs = search needs
+
+enum-known-read : tie.Need-enum-known-read
+enum-known-read c = search needs
+
+enum-told : tie.Need-enum-told
+enum-told c = search needs
+
+part-from-requires : tie.Need-part-from-requires
+part-from-requires c κs = search needs
+
+returns : tie.Need-returns
+returns c = rw (papers-accepted (readPapers (now (c .before .before .before .before .before .before .args .file)) (now (c .before .before .before .before .before .before .args .sheet))) (c .before .before .before .read-papers .ensures) (c .before .enum-told .given .1) .is) (c .part-from .ensures ∙ drop-length (now (c .before .before .before .before .before .before .args .sheet)))
+
+enum-told-2 : tie.Need-enum-told-2
+enum-told-2 c = search needs
+
+part-from-requires-2 : tie.Need-part-from-requires-2
+part-from-requires-2 c κs = search needs
+
+enum-told-3 : tie.Need-enum-told-3
+enum-told-3 c = search needs
+
+part-from-requires-3 : tie.Need-part-from-requires-3
+part-from-requires-3 c κs = search needs
+
+returns-2 : tie.Need-returns-2
+returns-2 c = rw (papers-refused (readPapers (now (c .before .before .before .before .before .before .before .before .before .args .file)) (now (c .before .before .before .before .before .before .before .before .before .args .sheet))) (c .before .before .before .before .before .before .read-papers .ensures) (c .before .before .before .before .read .given .1), c .before .enum-told2 .given .1) (c .part-from2 .ensures)
+
+returns-3 : tie.Need-returns-3
+returns-3 c = rw (papers-refused (readPapers (now (c .before .before .before .before .before .before .before .before .before .args .file)) (now (c .before .before .before .before .before .before .before .before .before .args .sheet))) (c .before .before .before .before .before .before .read-papers .ensures) (c .before .before .before .before .read .given .1), c .before .enum-told3 .given .1) (c .part-from3 .ensures)
+
+pub rest-of-paper-spec : {M : Type 1} → statement M
+rest-of-paper-spec =
+    tie.close
+    (tie.spec
+    read-papers-requires
+    enum-known-read
+    enum-told
+    part-from-requires
+    returns
+    enum-told-2
+    part-from-requires-2
+    enum-told-3
+    part-from-requires-3
+    returns-2
+    returns-3)

@@ -1,0 +1,45 @@
+-- A call over a record that passes test 14: how it begins, and what it reports.
+-- Assumes nothing.
+use mathlib.Core.Path.{_≡_, sym, ap, _∙_}
+use mathlib.Core.Bool.{false}
+use mathlib.Core.List.{List}
+use Prim.Native.Nat.{ℕ}
+use native.Mathlib.Omega.{arith}
+use Rattle.search.specs.declared.State.{State}
+use Rattle.search.specs.declared.Report.{Report as Told}
+use Rattle.search.specs.declared.stepping.Progress.{Progress}
+use Rattle.search.specs.Scenarios.{Problem, scenarios}
+use Rattle.search.specs.Continuing.{Record, Work, steps, stateBy, begun, reportOf, continue}
+use Rattle.search.specs.Spoilt.{spoiltBy}
+use Rattle.search.specs.Stepping.{workOf, Kept}
+use Rattle.search.specs.Searching.{toldReport}
+use Rattle.search.proofs.Sound.{unspoilt-bounded}
+
+-- Nothing tried yet.
+abbrev pub untried : Record → Progress
+untried from = record { position = from .position; found = from .found; tried = 0; rounds = 0 }
+
+abbrev pub told : Progress → State → Told
+told s state = record {
+  new = record { position = s .position; found = s .found };
+  tried = s .tried;
+  rounds = s .rounds;
+  state = state;
+}
+
+module _ (P : Problem) {total : ℕ} (all : total ≡ scenarios P) (from : Record) (list : List ℕ) where
+  pub unspoilt-kept : spoiltBy total from list ≡ false → Kept total (untried from) list
+  unspoilt-kept e =
+      let b = unspoilt-bounded P from list (ap (λ (n : ℕ). spoiltBy n from list) (sym all) ∙ e) in
+      record { within = omega arith; held = b .held; few = b .few; cost = omega arith }
+
+  module _ (w : ℕ) {s : Progress} {left : List ℕ} (ran : steps P w (begun from list) ≡ workOf s left) where
+    pub call-told : {state : State} → state ≡ stateBy total w (s .position) (s .tried) → told s state ≡ toldReport (continue P w from list)
+    unfolding continue
+    call-told {state} e =
+        ap (told s) (e ∙ ap (λ (n : ℕ). stateBy n w (s .position) (s .tried)) all)
+        ∙ sym (ap (λ (x : Work). toldReport (reportOf P w x)) ran)
+
+    pub call-list : left ≡ continue P w from list .list
+    unfolding continue
+    call-list = sym (ap (λ (x : Work). x .list) ran)

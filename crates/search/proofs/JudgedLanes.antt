@@ -1,0 +1,34 @@
+-- What judging tells of 64 scenarios, as the steps need it.
+-- Assumes nothing.
+use mathlib.Core.Path.{_≡_, ap}
+use mathlib.Core.List.{List}
+use Prim.Native.Nat.{ℕ, _+_, _≤_, _<_}
+use native.Mathlib.Omega.{arith}
+use lib.ListN.{length, getD}
+use Rattle.papers.specs.declared.Contents.{Contents}
+use Rattle.papers.specs.declared.FileRead.the-variants.{Accepted}
+use Rattle.papers.specs.Program.{Program, Query}
+use Rattle.papers.specs.Reading.{readFile, programIn}
+use Rattle.papers.specs.Answers.{fileAnswer}
+use Rattle.papers.proofs.FoldAnswers.{told}
+use Rattle.lanes.specs.VerdictLanes.{VerdictLanes}
+use Rattle.model.proofs.Rounds.{rounds-le}
+use Rattle.search.specs.Stepping.{InLanes}
+use Rattle.search.specs.Searching.{problemOf}
+
+-- How many abducibles there are.
+pub abducibles-are : (bytes : List ℕ) (contents : Contents) → fileAnswer (readFile bytes) ≡ Accepted contents
+    → length ((programIn bytes) .abducibles) ≡ contents .abducibles
+abducibles-are bytes contents answer = ap (λ (x : Contents). x .abducibles) (told bytes contents answer .contents-are)
+
+module _ (p : Program) (q : Query) {base word : ℕ} {counts : List ℕ} (v : VerdictLanes p q base word counts) where
+  -- Each scenario's verdict and its round count are in its lane.
+  pub judged-lanes : {k : ℕ} → length (p .abducibles) ≡ k → InLanes (problemOf (record { program = p; query = q })) k base word counts
+  judged-lanes e = record { abducibles = e; explains = v .explained; costs = v .counted }
+
+  -- "At most 2N", which is at most 1,026.
+  pub judged-cost : p .atoms ≤ 256 → (l : ℕ) → l < 64 → getD counts l 0 ≤ 1026
+  judged-cost few l h =
+      let e = v .counted l h in
+      let m = rounds-le p (base + l) in
+      omega arith

@@ -1,0 +1,101 @@
+-- A list of calls of `continue_search` over one file and one sheet, and what demand 3 says of it.
+use mathlib.Core.Path.{_≡_}
+use mathlib.Core.Bool.{cond}
+use mathlib.Core.List.{List, [], _∷_, map}
+use Prim.Native.Nat.{ℕ, _*_, _≤_}
+use lib.ListN.{length}
+use Rattle.literals.specs.Numbering.{judged}
+use Rattle.papers.specs.declared.Refusal.{Refusal}
+use Rattle.papers.specs.Reading.{Papers, readPapers}
+use Rattle.dual.specs.Answers.{dualOf, filled}
+use Rattle.search.specs.declared.Continued.{Continued}
+use Rattle.search.specs.declared.Continued.the-variants.{Reported, ShortDual, SpoiltSearch, Refused}
+use Rattle.search.specs.Continuing.{Record}
+use Rattle.search.specs.Calls.{Call, Answer, refusal, report, Called, roundsBy}
+use Rattle.search.specs.Demand.{Demand}
+use Rattle.search.specs.Searching.{problemOf, callOf, continueAnswer, dualContinued, listContinued, recordContinued, continuedNumber}
+
+-- "Allowance and dual buffer are each call's own."
+pub record Lent : Type 0 where
+  pub allowance : ℕ
+  pub dual : List ℕ
+
+-- What a call answers, and the dual buffer and the list as it leaves them.
+pub record Made : Type 0 where
+  pub answer : Continued
+  pub dual : List ℕ
+  pub list : List ℕ
+
+-- By the three equations that `continue_search` ensures.
+abbrev pub made : List ℕ → List ℕ → Lent → Record → List ℕ → Made
+made file sheet c from list = record {
+  answer = continueAnswer (readPapers file sheet) (c .allowance) (length (c .dual)) from list;
+  dual = dualContinued (readPapers file sheet) (c .allowance) (c .dual) from list;
+  list = listContinued (readPapers file sheet) (c .allowance) (length (c .dual)) from list;
+}
+
+-- What a list of calls leaves, and what each made.
+pub record Searched : Type 0 where
+  pub last : Record
+  pub list : List ℕ
+  pub each : List Made
+
+abbrev pub firstMade : Made → Searched → Searched
+firstMade m s = record { last = s .last; list = s .list; each = m ∷ s .each }
+
+-- "File, sheet and the length of the lent list are the same throughout." Each call is given the record and the list as the call before
+-- left them: a refused one "passes its record on unchanged".
+unfoldable pub searchCalls : List ℕ → List ℕ → List Lent → Record → List ℕ → Searched
+searchCalls file sheet [] from list = record { last = from; list = list; each = [] }
+searchCalls file sheet (c ∷ cs) from list =
+    let m = made file sheet c from list in
+    firstMade m (searchCalls file sheet cs (recordContinued from (m .answer)) (m .list))
+
+-- What a call makes of papers that are refused by r: "buffers and record are unchanged".
+unfoldable pub refusedMade : Refusal → List ℕ → Lent → Made
+refusedMade r list c = record { answer = Refused r; dual = c .dual; list = list }
+
+-- ---- demand 3
+
+-- A call and what it made, as `Demand` speaks of them: of a dual buffer, whether it is too short; of an answer, its report with the
+-- list.
+unfoldable pub callFor : Papers → Lent → Call
+callFor q c = callOf q (c .allowance) (length (c .dual))
+
+abbrev pub answered : Continued → List ℕ → Answer
+answered (Reported x) list = report (record { new = x .new; list = list; tried = x .tried; rounds = x .rounds; state = x .state })
+answered ShortDual list = refusal
+answered SpoiltSearch list = refusal
+answered (Refused r) list = refusal
+
+unfoldable pub answerFor : Made → Answer
+answerFor m = answered (m .answer) (m .list)
+
+abbrev pub calledBy : Searched → Called
+calledBy s = record { last = s .last; list = s .list; answers = map answerFor (s .each) }
+
+-- The number of a call's refusal, and its dual buffer afterwards.
+unfoldable pub numberOf : Made → ℕ
+numberOf m = continuedNumber (m .answer)
+
+unfoldable pub dualLeft : Made → List ℕ
+dualLeft m = m .dual
+
+-- By its dual buffer alone: 11 and unchanged where that is too short; else 0, and it begins with the dual.
+unfoldable pub numberFor : Papers → Lent → ℕ
+numberFor q c = cond (callFor q c .refused) 11 0
+
+unfoldable pub dualFor : Papers → Lent → List ℕ
+dualFor q c = cond (callFor q c .refused) (c .dual) (filled (dualOf (q .program)) (c .dual))
+
+-- What demand 3 says of the calls `cs` of `continue_search` from a fresh search, over papers that are accepted as `q` and a lent list
+-- that held `l` at the start; `s` is what they leave.
+pub record SearchDemand (q : Papers) (l : List ℕ) (cs : List Lent) (s : Searched) : Type 0 where
+  -- Record, list and sums: the lines of `Demand`.
+  pub demand : Demand (problemOf q) l (map (callFor q) cs) (calledBy s)
+  -- "j is its round count, at most 2N": so the rounds reported are at most 2N for each scenario tried.
+  pub most : (t : ℕ) → problemOf q .rounds t ≤ 2 * judged (q .program .atoms)
+  pub bound : roundsBy (calledBy s .answers) ≤ 2 * judged (q .program .atoms) * s .last .position
+  -- A call is refused exactly where its own dual buffer is too short, and by 11.
+  pub numbers : map numberOf (s .each) ≡ map (numberFor q) cs
+  pub duals : map dualLeft (s .each) ≡ map (dualFor q) cs

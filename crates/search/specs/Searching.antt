@@ -1,0 +1,104 @@
+-- Continuing: its refusals after those of the papers, its answer by document 01's numbers, and what the lent buffer and the lent list
+-- then hold.
+use mathlib.Core.Path.{_≡_}
+use mathlib.Core.Bool.{false, cond}
+use mathlib.Core.List.{List}
+use Prim.Native.Nat.{ℕ, _+_, _^_, _<_}
+use lib.Dec.{ltb}
+use lib.ListN.{length}
+use Rattle.papers.specs.declared.Contents.{Contents}
+use Rattle.papers.specs.Field.{numbers}
+use Rattle.papers.specs.Outcome.{Outcome, accepted, refused}
+use Rattle.papers.specs.Reading.{programIn, Papers}
+use Rattle.dual.specs.Answers.{dualOf, filled}
+use Rattle.model.specs.Model.{rounds, explains}
+use Rattle.lanes.specs.VerdictLanes.{Prepared}
+use Rattle.search.specs.declared.Report.{Report as Told}
+use Rattle.search.specs.declared.Continued.{Continued}
+use Rattle.search.specs.declared.Continued.the-variants.{Reported, ShortDual, SpoiltSearch, Refused}
+use Rattle.search.specs.declared.stepping.Progress.{Progress}
+use Rattle.search.specs.Scenarios.{Problem}
+use Rattle.search.specs.Continuing.{Record, Report}
+use Rattle.search.specs.Spoilt.{spoiltBy}
+use Rattle.search.specs.Calls.{Call, Answer, refusal, report, answer, listAfter}
+use Rattle.search.specs.Stepping.{Kept}
+
+-- What a file and a sheet come to: "scenario s below 3^k", "a scenario is an explanation exactly if falsum's byte is 2 and each query
+-- literal holds", and "j is its round count".
+abbrev pub problemOf : Papers → Problem
+problemOf q = record {
+  abducibles = length (q .program .abducibles);
+  explains = explains (q .program) (q .query);
+  rounds = rounds (q .program);
+}
+
+-- A call with its allowance and the length of its dual buffer. 11: "lent dual buffer shorter than the dual".
+abbrev pub callOf : Papers → ℕ → ℕ → Call
+callOf q allowance room = record { allowance = allowance; refused = ltb room (length (dualOf (q .program))) }
+
+-- What the call comes to, by the definition of continuing.
+abbrev pub answerOf : Papers → ℕ → ℕ → Record → List ℕ → Answer
+answerOf q allowance room from list = answer (problemOf q) (callOf q allowance room) from list
+
+-- "Reports the new record (position p plus tried), tried, rounds .. and the state."
+abbrev pub toldReport : Report → Told
+toldReport x = record { new = x .new; tried = x .tried; rounds = x .rounds; state = x .state }
+
+-- "Then 11, 12, 13, 14", of which 11 and 14 are continuing's.
+abbrev pub continuedBy : Call → Answer → Continued
+continuedBy c refusal = cond (c .refused) ShortDual SpoiltSearch
+continuedBy c (report x) = Reported (toldReport x)
+
+-- The answer. `room` is the length of the lent dual buffer.
+abbrev pub continueAnswer : Outcome Papers → ℕ → ℕ → Record → List ℕ → Continued
+continueAnswer (refused r) allowance room from list = Refused r
+continueAnswer (accepted q) allowance room from list = continuedBy (callOf q allowance room) (answerOf q allowance room from list)
+
+-- "Judging and continuing leave the dual in the dual buffer"; on refusal "buffers and record are unchanged".
+abbrev pub bufferBy : Answer → List ℕ → List ℕ → List ℕ
+bufferBy refusal bytes buffer = buffer
+bufferBy (report x) bytes buffer = filled bytes buffer
+
+abbrev pub dualContinued : Outcome Papers → ℕ → List ℕ → Record → List ℕ → List ℕ
+dualContinued (refused r) allowance dual from list = dual
+dualContinued (accepted q) allowance dual from list = bufferBy (answerOf q allowance (length dual) from list) (dualOf (q .program)) dual
+
+-- The lent list: continuing "adds to the list those that are minimal explanations".
+abbrev pub listContinued : Outcome Papers → ℕ → ℕ → Record → List ℕ → List ℕ
+listContinued (refused r) allowance room from list = list
+listContinued (accepted q) allowance room from list = listAfter list (answerOf q allowance room from list)
+
+-- The record to go on from: the new one, and on refusal the same.
+abbrev pub recordContinued : Record → Continued → Record
+recordContinued from (Reported x) = x .new
+recordContinued from ShortDual = from
+recordContinued from SpoiltSearch = from
+recordContinued from (Refused r) = from
+
+-- The number of a refusal of continuing: 1 to 10, 11, 14; 0 where it reports.
+abbrev pub continuedNumber : Continued → ℕ
+continuedNumber (Reported x) = 0
+continuedNumber ShortDual = 11
+continuedNumber SpoiltSearch = 14
+continuedNumber (Refused r) = r .number
+
+-- ---- for the functions behind it
+
+-- The problem of an accepted file and the bytes of a query.
+abbrev pub problemIn : List ℕ → List ℕ → Problem
+problemIn file query = problemOf (record { program = programIn file; query = numbers query })
+
+-- Papers that can be judged, a search within its bounds, and room to count `count` scenarios more.
+pub record Ready (file : List ℕ) (contents : Contents) (places dual query : List ℕ) (total count : ℕ) (before : Progress) (list : List ℕ)
+    : Type 0 where
+  pub prepared : Prepared file contents places dual query
+  pub scenarios : total ≡ 3 ^ length ((programIn file) .abducibles)
+  pub kept : Kept total before list
+  pub room : before .tried + count < 4294967296
+
+-- Papers that can be judged, and a record and a list that pass test 14.
+pub record Passed (file : List ℕ) (contents : Contents) (places dual query : List ℕ) (total : ℕ) (from : Record) (list : List ℕ)
+    : Type 0 where
+  pub prepared : Prepared file contents places dual query
+  pub scenarios : total ≡ 3 ^ length ((programIn file) .abducibles)
+  pub unspoilt : spoiltBy total from list ≡ false

@@ -1,0 +1,156 @@
+// A call over accepted papers: up to 64 scenarios judged at a time, and tried one by one.
+ghost use mathlib.Core.Path.{_≡_};
+ghost use Prim.Native.Nat.{_≤_};
+ghost use Rattle.search.specs.Continuing.{stateBy, continue};
+ghost use Rattle.search.specs.Stepping.{Batch, Tried};
+ghost use Rattle.search.specs.Searching.{problemIn, toldReport, Ready, Passed};
+use crate::Record;
+use crate::Report;
+use crate::State;
+use crate::stepping::Progress;
+use crate::stepping::try_lanes;
+use lanes::verdicts::judge_lanes;
+use papers::Contents;
+
+// How many scenarios to judge next.
+fn batch_size(tried: u32, allowance: u32, position: u32, total: u32) -> u32
+    requires { ⌜ (tried ≤ allowance) × (position ≤ total) ⌝ }
+    ensures { λ r. ⌜ Batch tried allowance position total r ⌝ }
+{
+    let allowed = allowance - tried;
+    let left = total - position;
+    if allowed < left {
+        if allowed < 64 {
+            return allowed;
+        }
+        return 64;
+    }
+    if left < 64 {
+        return left;
+    }
+    64
+}
+
+// The next scenarios, judged together.
+fn try_batch(
+    file: &[u8],
+    contents: Contents,
+    places: &[usize; 1280],
+    dual: &[u8],
+    query: &[u8],
+    list: &mut [u32],
+    total: u32,
+    count: u32,
+    before: Progress,
+) -> Progress
+    requires { ⌜ Ready (now file) contents (now places) (now dual) (now query) total count before (now list) × (count ≤ 64) ⌝ }
+    ensures { λ r. ⌜ Tried (problemIn (now (file .entry)) (now (query .entry))) total count before (now (list .entry)) r (now (list .exit)) ⌝ }
+{
+    let verdicts = judge_lanes(file, contents, places, dual, query, before.position as u64);
+    let explained = verdicts.explained;
+    let rounds = verdicts.rounds;
+    try_lanes(
+        list,
+        contents.abducibles,
+        total,
+        explained,
+        &rounds,
+        count as usize,
+        before,
+    )
+}
+
+// All that a call tries.
+fn try_all(
+    file: &[u8],
+    contents: Contents,
+    places: &[usize; 1280],
+    dual: &[u8],
+    query: &[u8],
+    list: &mut [u32],
+    total: u32,
+    allowance: u32,
+    before: Progress,
+) -> Progress
+    requires { ⌜ Ready (now file) contents (now places) (now dual) (now query) total allowance before (now list) × (before .tried ≡ 0) ⌝ }
+    ensures { λ r. ⌜ Tried (problemIn (now (file .entry)) (now (query .entry))) total allowance before (now (list .entry)) r (now (list .exit)) ⌝ }
+{
+    let mut reached = before;
+    let mut count = batch_size(0, allowance, reached.position, total);
+    while count > 0 {
+        let aim = reached.tried + count;
+        reached = try_batch(
+            file,
+            contents,
+            places,
+            dual,
+            query,
+            list,
+            total,
+            count,
+            reached,
+        );
+        if reached.tried < aim {
+            return reached;
+        }
+        count = batch_size(aim, allowance, reached.position, total);
+    }
+    reached
+}
+
+// The state that a call reports, where there are `total` scenarios.
+fn state_of(total: u32, allowance: u32, position: u32, tried: u32) -> State
+    ensures { λ r. ⌜ r ≡ stateBy total allowance position tried ⌝ }
+{
+    if position == total {
+        return State::Ended;
+    }
+    if tried < allowance {
+        return State::Full;
+    }
+    State::Going
+}
+
+// A call on a record and a list that pass test 14.
+pub(crate) fn search_accepted(
+    file: &[u8],
+    contents: Contents,
+    places: &[usize; 1280],
+    dual: &[u8],
+    query: &[u8],
+    list: &mut [u32],
+    total: u32,
+    from: Record,
+    allowance: u32,
+) -> Report
+    requires { ⌜ Passed (now file) contents (now places) (now dual) (now query) total from (now list) ⌝ }
+    ensures { λ r. ⌜ (r ≡ toldReport (continue (problemIn (now (file .entry)) (now (query .entry))) allowance from (now (list .entry)))) × (now (list .exit) ≡ (continue (problemIn (now (file .entry)) (now (query .entry))) allowance from (now (list .entry))) .list) ⌝ }
+{
+    let before = Progress {
+        position: from.position,
+        found: from.found,
+        tried: 0,
+        rounds: 0,
+    };
+    let reached = try_all(
+        file,
+        contents,
+        places,
+        dual,
+        query,
+        list,
+        total,
+        allowance,
+        before,
+    );
+    let state = state_of(total, allowance, reached.position, reached.tried);
+    Report {
+        new: Record {
+            position: reached.position,
+            found: reached.found,
+        },
+        tried: reached.tried,
+        rounds: reached.rounds,
+        state: state,
+    }
+}

@@ -1,0 +1,178 @@
+//! Programs of few atoms in which much follows: rings of rules, chains through
+//! not, conjugates, and bodies that lead back to abducibles.
+
+use plain::{Atom, Literal, ObjectiveLiteral, Program, Query, Rule};
+
+use crate::random::Random;
+
+/// A program with so many abducibles and other atoms. Of the latter there is at
+/// least one.
+pub fn causes(random: &mut Random, abducibles: usize, others: usize) -> Program {
+    let mut program = Program {
+        atoms: (abducibles + others) as u16,
+        abducibles: some_atoms(random, abducibles, others),
+        rules: vec![],
+        integrity_bodies: vec![],
+    };
+    let heads = heads(&program);
+    for _ in 0..random.below(2 * heads.len() + 1) {
+        let head = random.pick(&heads);
+        let body = body(random, &program, 3);
+        program.rules.push(Rule { head, body });
+    }
+    if !random.one_in(3) {
+        add_ring(random, &mut program, &heads);
+    }
+    if random.one_in(2) {
+        add_chain(random, &mut program, &heads);
+    }
+    if random.one_in(2) {
+        add_conjugates(random, &mut program, &heads);
+    }
+    shuffle(random, &mut program.rules);
+    for _ in 0..random.pick(&[0, 0, 0, 1, 1, 2]) {
+        let body = body(random, &program, 2);
+        program.integrity_bodies.push(body);
+    }
+    program
+}
+
+/// A query for heads of rules, as a rule.
+pub fn query_of_heads(random: &mut Random, program: &Program) -> Query {
+    let literals = if program.rules.is_empty() || random.one_in(6) {
+        body(random, program, 2)
+    } else {
+        (0..random.pick(&[1, 1, 1, 2]))
+            .map(|_| {
+                let rule = random.below(program.rules.len());
+                either(random, program.rules[rule].head)
+            })
+            .collect()
+    };
+    Query { literals }
+}
+
+/// So many of the atoms, rising, with so many others between them.
+fn some_atoms(random: &mut Random, count: usize, others: usize) -> Vec<Atom> {
+    let mut atoms: Vec<Atom> = (0..count + others).map(|atom| Atom(atom as u16)).collect();
+    while atoms.len() > count {
+        atoms.remove(random.below(atoms.len()));
+    }
+    atoms
+}
+
+fn heads(program: &Program) -> Vec<ObjectiveLiteral> {
+    (0..2 * program.atoms)
+        .map(ObjectiveLiteral)
+        .filter(|head| !program.abducibles.contains(&head.atom()))
+        .collect()
+}
+
+/// At most so many literals, less often none. About every other one is of an
+/// abducible atom, where there are any.
+fn body(random: &mut Random, program: &Program, most: usize) -> Vec<Literal> {
+    let least = usize::from(!random.one_in(5));
+    (0..random.between(least, most))
+        .map(|_| {
+            let atom = if program.abducibles.is_empty() || random.one_in(2) {
+                Atom(random.below(program.atoms.into()) as u16)
+            } else {
+                random.pick(&program.abducibles)
+            };
+            Literal(4 * atom.0 + random.below(4) as u16)
+        })
+        .collect()
+}
+
+/// Adds rules each of whose heads stands in the body of the one before, and the
+/// first head in that of the last. Some have a way in.
+fn add_ring(random: &mut Random, program: &mut Program, heads: &[ObjectiveLiteral]) {
+    let ring: Vec<ObjectiveLiteral> = (0..random.between(1, 4))
+        .map(|_| random.pick(heads))
+        .collect();
+    let nexts = ring.iter().cycle().skip(1);
+    for (&head, &next) in ring.iter().zip(nexts) {
+        let mut body = if random.one_in(3) {
+            body(random, program, 1)
+        } else {
+            vec![]
+        };
+        body.push(holds(next));
+        program.rules.push(Rule { head, body });
+    }
+    if random.one_in(3) {
+        let head = random.pick(&ring);
+        let body = body(random, program, 2);
+        program.rules.push(Rule { head, body });
+    }
+}
+
+/// Adds rules each of whose heads holds where the one before does not, so that
+/// it takes a round for each.
+fn add_chain(random: &mut Random, program: &mut Program, heads: &[ObjectiveLiteral]) {
+    let mut before = random.pick(heads);
+    let body = body(random, program, 1);
+    program.rules.push(Rule { head: before, body });
+    for _ in 0..random.between(1, 8) {
+        let head = random.pick(heads);
+        program.rules.push(Rule {
+            head,
+            body: vec![fails(before)],
+        });
+        before = head;
+    }
+}
+
+/// Adds a rule for each of two conjugates.
+fn add_conjugates(random: &mut Random, program: &mut Program, heads: &[ObjectiveLiteral]) {
+    let atom = random.pick(heads).atom();
+    for head in [
+        ObjectiveLiteral::of(atom),
+        ObjectiveLiteral::negation_of(atom),
+    ] {
+        let body = body(random, program, 1);
+        program.rules.push(Rule { head, body });
+    }
+}
+
+fn shuffle(random: &mut Random, rules: &mut [Rule]) {
+    for last in (1..rules.len()).rev() {
+        rules.swap(random.between(0, last), last);
+    }
+}
+
+fn holds(objective: ObjectiveLiteral) -> Literal {
+    Literal(2 * objective.0)
+}
+
+fn fails(objective: ObjectiveLiteral) -> Literal {
+    Literal(2 * objective.0 + 1)
+}
+
+fn either(random: &mut Random, objective: ObjectiveLiteral) -> Literal {
+    if random.one_in(2) {
+        holds(objective)
+    } else {
+        fails(objective)
+    }
+}
+
+#[cfg(test)]
+mod tests {
+    use super::*;
+    use plain::{encode_file, encode_sheet, read_papers};
+
+    #[test]
+    fn their_papers_are_accepted() {
+        let mut random = Random::new(6);
+        for round in 0..2_000 {
+            let abducibles = round % 17;
+            let others = random.between(1, 5);
+            let program = causes(&mut random, abducibles, others);
+            assert_eq!(program.abducibles.len(), abducibles);
+            let query = query_of_heads(&mut random, &program);
+            let (file, sheet) = (encode_file(&program), encode_sheet(&query));
+            assert_eq!(read_papers(&file, &sheet), Ok((program, query)));
+        }
+    }
+}

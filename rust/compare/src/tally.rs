@@ -1,0 +1,139 @@
+//! How often named things came, each of which must come for a comparison to be
+//! worth something.
+
+use std::fmt;
+
+use crate::coverage::LEAST;
+
+/// A name for what a subject can have, and whether it has it.
+pub type Feature<S> = (&'static str, fn(&S) -> bool);
+
+/// How many subjects had each feature.
+pub struct Tally<S: 'static> {
+    heading: &'static str,
+    features: &'static [Feature<S>],
+    subjects: u64,
+    counts: Vec<u64>,
+}
+
+impl<S> Tally<S> {
+    pub fn new(heading: &'static str, features: &'static [Feature<S>]) -> Self {
+        Tally {
+            heading,
+            features,
+            subjects: 0,
+            counts: vec![0; features.len()],
+        }
+    }
+
+    pub fn count(&mut self, subject: &S) {
+        self.subjects += 1;
+        for (count, (_, has)) in self.counts.iter_mut().zip(self.features) {
+            *count += u64::from(has(subject));
+        }
+    }
+
+    /// How many subjects there were.
+    pub fn subjects(&self) -> u64 {
+        self.subjects
+    }
+
+    /// What came too rarely.
+    pub fn complaints(&self) -> Vec<String> {
+        let rare = self.counts.iter().zip(self.features);
+        rare.filter(|(&count, _)| count < LEAST)
+            .map(|(count, (name, _))| format!("only {count} times: {} with {name}", self.heading))
+            .collect()
+    }
+}
+
+impl<S> fmt::Display for Tally<S> {
+    fn fmt(&self, f: &mut fmt::Formatter) -> fmt::Result {
+        writeln!(f, "{} {}", self.heading, self.subjects)?;
+        for (count, (name, _)) in self.counts.iter().zip(self.features) {
+            writeln!(f, "    with {name}: {count}")?;
+        }
+        Ok(())
+    }
+}
+
+/// The numbers with which a file can be refused, and a sheet.
+pub const OF_FILE: [u8; 10] = [1, 2, 3, 4, 5, 6, 7, 8, 9, 10];
+pub const OF_SHEET: [u8; 5] = [1, 2, 3, 6, 10];
+
+/// How often each of some refusal numbers came.
+pub struct Numbers {
+    heading: &'static str,
+    /// Each with its count, rising.
+    counts: Vec<(u8, u64)>,
+}
+
+impl Numbers {
+    pub fn new(heading: &'static str, numbers: impl IntoIterator<Item = u8>) -> Self {
+        Numbers {
+            heading,
+            counts: numbers.into_iter().map(|number| (number, 0)).collect(),
+        }
+    }
+
+    /// Counts one of the numbers.
+    pub fn count(&mut self, number: u8) {
+        let mut counts = self.counts.iter_mut();
+        let entry = counts.find(|(other, _)| *other == number);
+        entry.expect("one of the numbers").1 += 1;
+    }
+
+    /// What came too rarely.
+    pub fn complaints(&self) -> Vec<String> {
+        let rare = self.counts.iter().filter(|(_, count)| *count < LEAST);
+        rare.map(|(number, count)| format!("only {count} times: {} {number}", self.heading))
+            .collect()
+    }
+}
+
+impl fmt::Display for Numbers {
+    fn fmt(&self, f: &mut fmt::Formatter) -> fmt::Result {
+        writeln!(f, "{}, by number", self.heading)?;
+        for (number, count) in &self.counts {
+            writeln!(f, "    {number:2}: {count}")?;
+        }
+        Ok(())
+    }
+}
+
+#[cfg(test)]
+mod tests {
+    use super::*;
+
+    const FEATURES: &[Feature<u32>] = &[
+        ("an even number", |number| number % 2 == 0),
+        ("seven", |&number| number == 7),
+    ];
+
+    #[test]
+    fn a_subject_counts_for_each_of_its_features() {
+        let mut tally = Tally::new("numbers", FEATURES);
+        for number in 0..1_000 {
+            tally.count(&number);
+        }
+        assert_eq!(tally.subjects(), 1_000);
+        assert_eq!(
+            tally.to_string(),
+            "numbers 1000\n    with an even number: 500\n    with seven: 1\n"
+        );
+        assert_eq!(tally.complaints(), ["only 1 times: numbers with seven"]);
+    }
+
+    #[test]
+    fn numbers_that_came_too_rarely_are_complained_of() {
+        let mut numbers = Numbers::new("refused", [3, 14]);
+        for _ in 0..LEAST {
+            numbers.count(14);
+        }
+        assert_eq!(numbers.complaints(), ["only 0 times: refused 3"]);
+        assert_eq!(
+            numbers.to_string(),
+            "refused, by number\n     3: 0\n    14: 100\n"
+        );
+    }
+}
