@@ -75,8 +75,8 @@ module _ {read : Outcome Papers} {q : Papers} (is : read ≡ accepted q) {L : �
   pub text-put : {n k total first second third : ℕ} {abducibles out one two three : List ℕ} {w : Word}
       → q .program .atoms ≡ n → length (q .program .abducibles) ≡ k → 3 ^ k ≡ total → q .program .abducibles ≡ abducibles → stateOf (s .state) ≡ w
       → Put 0 (headingLine n k total) out first one → Put first (foundLines abducibles (take (s .reached .found) list)) one second two
-      → Put second (lastLine w (s .tried) (s .rounds)) two third three → Put 0 (deskText read L) out third three
-  unfolding deskText searchText
+      → Put second (lastLine w (s .tried) (s .rounds)) two third three → Put 0 (searchText q L) out third three
+  unfolding searchText
   text-put {n = n} {k = k} {total = total} {third = third} {abducibles = abducibles} {out = out} {three = three} {w = w} en ek et ea ew heading found last =
       let P = problemOf q in
       let same = problem-is is in
@@ -91,5 +91,9 @@ module _ {read : Outcome Papers} {q : Papers} (is : read ≡ accepted q) {L : �
       let ending = lastLine w (s .tried) (s .rounds) in
       let text : searchText q L ≡ headingLine n k total ++ (lines ++ ending) =
       λ i. headingLine (en i) (ek i) (count i) ++ (foundLines (ea i) (entries i) ++ lastLine (state i) (tried i) (rounds i)) in
-      let whole : deskText read L ≡ searchText q L = rw is in
-      subst (λ (t : List ℕ). Put 0 t out third three) (sym (whole ∙ text)) (put-two (headingLine n k total) (lines ++ ending) heading (put-two lines ending found last))
+      subst (λ (t : List ℕ). Put 0 t out third three) (sym text) (put-two (headingLine n k total) (lines ++ ending) heading (put-two lines ending found last))
+
+-- With a list of 1,024 places it is the program's.
+pub text-is : {read : Outcome Papers} {q : Papers} → read ≡ accepted q → {L : ℕ} → L ≡ 1024 → searchText q L ≡ deskText read
+unfolding deskText
+text-is {q = q} is e = rw is (ap (searchText q) e)

@@ -33,7 +33,7 @@ searchText q L =
     ++ (foundLines (q .program .abducibles) (minimals P (stop P L))
     ++ lastLine (stateOf (lastState P L)) (stop P L) (sumBelow (stop P L) (P .rounds)))
 
--- "A refusal prints one line alone."
-unfoldable pub deskText : Outcome Papers → ℕ → List ℕ
-deskText (accepted q) L = searchText q L
-deskText (refused r) L = refusedLine r
+-- "L = 1,024"; "a refusal prints one line alone".
+unfoldable pub deskText : Outcome Papers → List ℕ
+deskText (accepted q) = searchText q 1024
+deskText (refused r) = refusedLine r

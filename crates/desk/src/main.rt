@@ -3,6 +3,8 @@
 mod output;
 mod searching;
 
+ghost use mathlib.Core.Path.{_≡_};
+ghost use lib.ListN.{length};
 ghost use Rattle.io.specs.Counts.{Counts};
 use libc::STDOUT_FILENO;
 use output::write_report;
@@ -27,8 +29,9 @@ fn read_all(fd: i32, paper: &mut [u8]) -> usize
     size
 }
 
-// A file that cannot be read counts as empty.
+// The first 65,536 bytes of a file. One that cannot be read counts as empty.
 fn read_paper(path: &[u8], paper: &mut [u8]) -> usize
+    requires { ⌜ length (now paper) ≡ 65536 ⌝ }
     ensures { λ r. ⌜ Counts r (now (paper .exit)) ⌝ }
 {
     let fd = os::open_read(path);

@@ -54,8 +54,8 @@ fn write_accepted(
     list: &mut [u32],
     out: &mut [u8],
 ) -> usize
-    requires { ⌜ (papersAnswer (readPapers (now file) (now sheet)) ≡ PapersRead.Accepted contents literals) × ((52488 ≤ length (now dual)) × (length (now list) ≤ 1024)) ⌝ }
-    ensures { λ r. ⌜ Put 0 (deskText (readPapers (now (file .entry)) (now (sheet .entry))) (length (now (list .entry)))) (now (out .entry)) r (now (out .exit)) × (r ≤ 98304) ⌝ }
+    requires { ⌜ (papersAnswer (readPapers (now file) (now sheet)) ≡ PapersRead.Accepted contents literals) × ((52488 ≤ length (now dual)) × (length (now list) ≡ 1024)) ⌝ }
+    ensures { λ r. ⌜ Put 0 (deskText (readPapers (now (file .entry)) (now (sheet .entry)))) (now (out .entry)) r (now (out .exit)) × (r ≤ 98304) ⌝ }
 {
     let count = contents.abducibles;
     let total = scenario_count(count);
@@ -81,8 +81,8 @@ pub(crate) fn write_report(
     list: &mut [u32],
     out: &mut [u8],
 ) -> usize
-    requires { ⌜ (52488 ≤ length (now dual)) × (length (now list) ≤ 1024) ⌝ }
-    ensures { λ r. ⌜ Put 0 (deskText (readPapers (now (file .entry)) (now (sheet .entry))) (length (now (list .entry)))) (now (out .entry)) r (now (out .exit)) × (r ≤ 98304) ⌝ }
+    requires { ⌜ (52488 ≤ length (now dual)) × (length (now list) ≡ 1024) ⌝ }
+    ensures { λ r. ⌜ Put 0 (deskText (readPapers (now (file .entry)) (now (sheet .entry)))) (now (out .entry)) r (now (out .exit)) × (r ≤ 98304) ⌝ }
 {
     let read = reading::read_papers(file, sheet);
     let PapersRead::Accepted(contents, literals) = read else {

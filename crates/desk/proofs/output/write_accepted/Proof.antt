@@ -18,7 +18,7 @@ use Rattle.search.specs.Searching.{problemOf}
 use Rattle.desk.specs.Search.{problemFor}
 use Rattle.desk.specs.Output.{foundLines}
 use Rattle.desk.proofs.PaperLaws.{problem-is, small, program-valid, abducibles-below}
-use Rattle.desk.proofs.TextLaws.{few-found, lines-few, text-put}
+use Rattle.desk.proofs.TextLaws.{few-found, lines-few, text-put, text-is}
 use Rattle.desk.proofs.output.write_accepted.Statement.{statement}
 use Rattle.desk.proofs.output.write_accepted.Tie as tie
 
@@ -133,7 +133,7 @@ returns c =
     let p = found .ensures .0 .place in
     let x = heading .ensures .1 in
     let y = last .ensures .1 in
-    (text, omega arith)
+    (rw (text-is (k .is) most) at text, omega arith)
 
 pub write-accepted-spec : {M : Type 1} → statement M
 write-accepted-spec =
