@@ -3,3 +3,4 @@ pub mod PaperLaws
 pub mod CallLaws
 pub mod TurnLaws
 pub mod TextLaws
+pub mod Examples
