@@ -1,5 +1,6 @@
 // The lines that the desk program prints, each written into a lent buffer from a place on. Each
-// function answers the place after its line; bytes past the buffer's end are left out.
+// function answers the place after its line, which is at most 512 bytes long; bytes past the
+// buffer's end are left out.
 mod text;
 
 ghost use mathlib.Core.Path.{_≡_};
@@ -34,7 +35,7 @@ pub fn write_heading(
     scenarios: u64,
 ) -> usize
     requires { ⌜ at < 2 ^ 32 ⌝ }
-    ensures { λ r. ⌜ Put at (headingLine atoms abducibles scenarios) (now (buffer .entry)) r (now (buffer .exit)) ⌝ }
+    ensures { λ r. ⌜ Put at (headingLine atoms abducibles scenarios) (now (buffer .entry)) r (now (buffer .exit)) × (r ≤ at + 512) ⌝ }
 {
     let first = put_number(buffer, at, b"atoms ", atoms);
     let second = put_number(buffer, first, b" abducibles ", abducibles);
@@ -83,7 +84,7 @@ fn put_assumptions(buffer: &mut [u8], at: usize, scenario: u32, abducibles: &[u8
 // `found 1 1+`: the scenario, and the abducibles' numbers as they stand in a file.
 pub fn write_found(buffer: &mut [u8], at: usize, scenario: u32, abducibles: &[u8]) -> usize
     requires { ⌜ (at < 2 ^ 32) × (length (now abducibles) ≤ 32) ⌝ }
-    ensures { λ r. ⌜ Put at (foundLine scenario (numbers (now (abducibles .entry)))) (now (buffer .entry)) r (now (buffer .exit)) ⌝ }
+    ensures { λ r. ⌜ Put at (foundLine scenario (numbers (now (abducibles .entry)))) (now (buffer .entry)) r (now (buffer .exit)) × (r ≤ at + 512) ⌝ }
 {
     let first = put_number(buffer, at, b"found ", scenario as u64);
     let second = put_assumptions(buffer, first, scenario, abducibles);
@@ -104,7 +105,7 @@ fn put_state(buffer: &mut [u8], at: usize, state: State) -> usize
 // `ended tried 3 rounds 3`
 pub fn write_last(buffer: &mut [u8], at: usize, state: State, tried: u64, rounds: u64) -> usize
     requires { ⌜ at < 2 ^ 32 ⌝ }
-    ensures { λ r. ⌜ Put at (lastLine state tried rounds) (now (buffer .entry)) r (now (buffer .exit)) ⌝ }
+    ensures { λ r. ⌜ Put at (lastLine state tried rounds) (now (buffer .entry)) r (now (buffer .exit)) × (r ≤ at + 512) ⌝ }
 {
     let first = put_state(buffer, at, state);
     let second = put_number(buffer, first, b" tried ", tried);
@@ -125,7 +126,7 @@ fn put_place(buffer: &mut [u8], at: usize, paper: Paper, place: u64) -> usize
 // `refused 6 sheet 0`
 pub fn write_refused(buffer: &mut [u8], at: usize, refusal: Refusal) -> usize
     requires { ⌜ at < 2 ^ 32 ⌝ }
-    ensures { λ r. ⌜ Put at (refusedLine refusal) (now (buffer .entry)) r (now (buffer .exit)) ⌝ }
+    ensures { λ r. ⌜ Put at (refusedLine refusal) (now (buffer .entry)) r (now (buffer .exit)) × (r ≤ at + 512) ⌝ }
 {
     let number = refusal.number as u64;
     let paper = refusal.paper;

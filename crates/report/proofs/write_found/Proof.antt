@@ -1,6 +1,7 @@
 -- `report::write_found` meets its contract.
 -- Assumes nothing.
 use mathlib.Core.List.{[], _∷_, _++_}
+use native.Mathlib.Omega.{arith}
 use denote.Ref.{now}
 use Rattle.papers.specs.Field.{numbers}
 use Rattle.report.specs.Decimal.{decimal}
@@ -35,7 +36,7 @@ returns c =
     let l = left-line (a .at) foundWord (n ∷ items) (now (a .buffer)) in
     let m = left-after (foundWord ++ 32 ∷ n) (further items) (c .before .before .before .before .before .before .before .before .before .before .put-number .ensures .0) l in
     let o = left-after (spaced items) (10 ∷ []) (c .before .before .before .before .before .before .put-assumptions .ensures .0) (rw (← spaced-further items) at m) in
-    left-none (left-after (10 ∷ []) [] (c .before .before .put-byte .ensures) o)
+    (left-none (left-after (10 ∷ []) [] (c .before .before .put-byte .ensures) o), omega arith)
 
 pub write-found-spec : {M : Type 1} → statement M
 write-found-spec =

@@ -1,6 +1,7 @@
 -- `report::write_heading` meets its contract.
 -- Assumes nothing.
 use mathlib.Core.List.{[], _∷_, _++_}
+use native.Mathlib.Omega.{arith}
 use denote.Ref.{now}
 use borrow.Author.Needs.{needs}
 use Rattle.report.specs.Decimal.{decimal}
@@ -44,7 +45,7 @@ returns c =
     let m = left-after (atomsWord ++ 32 ∷ n) (further (abduciblesWord ∷ k ∷ scenariosWord ∷ s ∷ [])) (c .before .before .before .before .before .before .before .before .before .before .before .before .before .before .before .before .put-number .ensures .0) l in
     let o = left-after (32 ∷ abduciblesWord ++ 32 ∷ k) (further (scenariosWord ∷ s ∷ [])) (c .before .before .before .before .before .before .before .before .before .before .before .put-number2 .ensures .0) m in
     let p = left-after (32 ∷ scenariosWord ++ 32 ∷ s) (further []) (c .before .before .before .before .before .before .put-number3 .ensures .0) o in
-    left-none (left-after (10 ∷ []) [] (c .before .before .put-byte .ensures) p)
+    (left-none (left-after (10 ∷ []) [] (c .before .before .put-byte .ensures) p), omega arith)
 
 pub write-heading-spec : {M : Type 1} → statement M
 write-heading-spec =

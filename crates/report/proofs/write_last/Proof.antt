@@ -1,6 +1,7 @@
 -- `report::write_last` meets its contract.
 -- Assumes nothing.
 use mathlib.Core.List.{[], _∷_, _++_}
+use native.Mathlib.Omega.{arith}
 use denote.Ref.{now}
 use borrow.Author.Needs.{needs}
 use Rattle.report.specs.Decimal.{decimal}
@@ -40,7 +41,7 @@ returns c =
     let m = left-after (stateWord (a .state)) (further (triedWord ∷ t ∷ roundsWord ∷ r ∷ [])) (c .before .before .before .before .before .before .before .before .before .before .before .before .before .before .before .before .put-state .ensures .0) l in
     let o = left-after (32 ∷ triedWord ++ 32 ∷ t) (further (roundsWord ∷ r ∷ [])) (c .before .before .before .before .before .before .before .before .before .before .before .put-number .ensures .0) m in
     let p = left-after (32 ∷ roundsWord ++ 32 ∷ r) (further []) (c .before .before .before .before .before .before .put-number2 .ensures .0) o in
-    left-none (left-after (10 ∷ []) [] (c .before .before .put-byte .ensures) p)
+    (left-none (left-after (10 ∷ []) [] (c .before .before .put-byte .ensures) p), omega arith)
 
 pub write-last-spec : {M : Type 1} → statement M
 write-last-spec =

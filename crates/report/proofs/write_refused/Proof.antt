@@ -1,6 +1,7 @@
 -- `report::write_refused` meets its contract.
 -- Assumes nothing.
 use mathlib.Core.List.{[], _∷_, _++_, append-assoc}
+use native.Mathlib.Omega.{arith}
 use denote.Ref.{now}
 use borrow.Author.Needs.{needs}
 use Rattle.report.specs.Decimal.{decimal}
@@ -37,7 +38,7 @@ returns c =
     let l = left-line (a .at) refusedWord (n ∷ w ∷ p ∷ []) (now (a .buffer)) in
     let m = left-after (refusedWord ++ 32 ∷ n) (further (w ∷ p ∷ [])) (c .before .before .before .before .before .before .before .before .before .before .put-number .ensures .0) l in
     let o = left-after (32 ∷ (w ++ 32 ∷ p)) (further []) (c .before .before .before .before .before .before .put-place .ensures .0) (rw (← append-assoc w (32 ∷ p) (10 ∷ [])) at m) in
-    left-none (left-after (10 ∷ []) [] (c .before .before .put-byte .ensures) o)
+    (left-none (left-after (10 ∷ []) [] (c .before .before .put-byte .ensures) o), omega arith)
 
 pub write-refused-spec : {M : Type 1} → statement M
 write-refused-spec =

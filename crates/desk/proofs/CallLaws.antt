@@ -1,0 +1,118 @@
+-- One call of the desk program's, from where the calls before it stand. Assumes nothing.
+use mathlib.Core.Path.{_≡_, refl, sym, ap, ap₂, subst, _∙_}
+use mathlib.Core.Bool.{false}
+use mathlib.Core.List.{List, _++_}
+use Prim.Native.Nat.{ℕ, _+_, _-_, _≤_, _<_, min}
+use native.Mathlib.Omega.{arith}
+use borrow.Author.Tests.{le-ltb}
+use lib.ListN.{length, take, drop, take-append-drop}
+use Rattle.papers.specs.Outcome.{Outcome, accepted}
+use Rattle.papers.specs.Reading.{Papers}
+use Rattle.dual.specs.Answers.{dualOf}
+use Rattle.search.specs.declared.Continued.the-variants.{Reported}
+use Rattle.search.specs.declared.Report.{Report as Told}
+use Rattle.search.specs.Scenarios.{Problem, scenarios, minimals, stop, sumBelow, roundsFrom}
+use Rattle.search.specs.Continuing.{Report, reportOf, continue, stateBy}
+use Rattle.search.specs.Spoilt.{spoilt}
+use Rattle.search.specs.Calls.{answer, report}
+use Rattle.search.specs.Searching.{problemOf, callOf, toldReport, continueAnswer, listContinued}
+use Rattle.search.proofs.Stopping.{stop-le}
+use Rattle.search.proofs.Sums.{sum-rounds, sum-bound}
+use Rattle.search.proofs.Canonical.{recordAt, listAt, workAt, listAt-found, listAt-length, continue-at}
+use Rattle.search.proofs.Sound.{reached-unspoilt}
+use Rattle.search.proofs.Calling.{answer-made}
+use Rattle.desk.specs.declared.searching.Progress.{Progress}
+use Rattle.desk.specs.Search.{problemFor, Stands, GoneOn}
+use Rattle.desk.proofs.PaperLaws.{Small, problem-is}
+
+module _ (P : Problem) (list : List ℕ) (before : Progress) (stands : Stands P list before) where
+  -- Record and list are those of a search that has come to its position.
+  pub reached-is : before .reached ≡ recordAt P (before .reached .position)
+  unfolding recordAt
+  reached-is = λ i. record { position = before .reached .position; found = stands .found i }
+
+  pub list-is : listAt P list (before .reached .position) ≡ list
+  unfolding listAt
+  list-is =
+      ap (λ (l : List ℕ). l ++ drop (length (minimals P (before .reached .position))) list) (sym (stands .entries))
+      ∙ ap (λ (n : ℕ). take (before .reached .found) list ++ drop n list) (sym (stands .found))
+      ∙ take-append-drop (before .reached .found) list
+
+  pub unspoilt : spoilt P (before .reached) list ≡ false
+  unspoilt = ap₂ (spoilt P) reached-is (sym list-is) ∙ reached-unspoilt P list (before .reached .position) (stands .within)
+
+-- After a call that told so much.
+abbrev pub next : Progress → Told → Progress
+next before told = record {
+  reached = told .new;
+  tried = before .tried + told .tried;
+  rounds = before .rounds + told .rounds;
+  state = told .state;
+}
+
+-- What a call leaves: where the calls then stand, and that the sums fit 64 bits.
+pub record Called (P : Problem) (list : List ℕ) (before : Progress) (told : Told) (after : List ℕ) : Type 0 where
+  pub stands : Stands P after (next before told)
+  pub gone : GoneOn P (length list) before (next before told)
+  pub triedFits : before .tried + told .tried < 18446744073709551616
+  pub roundsFit : before .rounds + told .rounds < 18446744073709551616
+
+module _ (P : Problem) (small : Small P) (list : List ℕ) (before : Progress) (stands : Stands P list before) (m : ℕ)
+    (tries : m ≡ min 4096 (stop P (length list) - before .reached .position)) where
+  -- What the call reports, by the position that it comes to.
+  unfoldable reported : Report
+  reported = reportOf P 4096 (workAt P list (before .reached .position + m) m (sumBelow m (roundsFrom P (before .reached .position))))
+
+  reported-is : continue P 4096 (before .reached) list ≡ reported
+  unfolding reported
+  reported-is =
+      ap₂ (continue P 4096) (reached-is P list before stands) (sym (list-is P list before stands))
+      ∙ continue-at P list 4096 (before .reached .position) m (stands .within) tries
+
+  called-there : Called P list before (toldReport reported) (reported .list)
+  unfolding reported
+  called-there =
+      let at = before .reached .position + m in
+      let size = listAt-length P list at (let w = stands .within in omega arith) in
+      let sums = sum-rounds P (before .reached .position) m in
+      let most = sum-bound at (P .rounds) 1026 (λ i h. small .rounds i) in
+      let total = stop-le P (length list) in
+      let few = small .few in
+      let w = stands .within in
+      let t = stands .tried in
+      let r = stands .rounds in
+      record {
+        stands = record { within = rw size (omega arith); found = refl; entries = listAt-found P list at; tried = omega arith; rounds = omega arith };
+        gone = record { position = omega arith; state = ap (stateBy (scenarios P) 4096 at) (let e : m ≡ at - before .reached .position = omega arith in e) };
+        triedFits = omega arith;
+        roundsFit = omega arith;
+      }
+
+-- The call, by what `continue_search` answers.
+module _ {read : Outcome Papers} {q : Papers} (is : read ≡ accepted q) (small : Small (problemOf q)) (room : ℕ)
+    (enough : length (dualOf (q .program)) ≤ room) (list : List ℕ) (before : Progress) (stands : Stands (problemFor read) list before) where
+  stands-there : Stands (problemOf q) list before
+  stands-there = rw (problem-is is) at stands
+
+  made : answer (problemOf q) (callOf q 4096 room) (before .reached) list ≡ report (continue (problemOf q) 4096 (before .reached) list)
+  made =
+      answer-made (problemOf q) (callOf q 4096 room) (before .reached) list (le-ltb room (length (dualOf (q .program))) enough)
+      (unspoilt (problemOf q) list before stands-there)
+
+  pub answer-is : continueAnswer read 4096 room (before .reached) list ≡ Reported (toldReport (continue (problemOf q) 4096 (before .reached) list))
+  answer-is = rw (is, made)
+
+  list-after : listContinued read 4096 room (before .reached) list ≡ continue (problemOf q) 4096 (before .reached) list .list
+  list-after = rw (is, made)
+
+  pub called : {told : Told} {after : List ℕ} → Reported told ≡ continueAnswer read 4096 room (before .reached) list
+      → after ≡ listContinued read 4096 room (before .reached) list → Called (problemFor read) list before told after
+  called {told} {after} t l =
+      let P = problemOf q in
+      let m = min 4096 (stop P (length list) - before .reached .position) in
+      let e = reported-is P small list before stands-there m refl in
+      let tells : told ≡ toldReport (continue P 4096 (before .reached) list) = let z = t ∙ answer-is in cc in
+      let there = called-there P small list before stands-there m refl in
+      let x = subst (λ (r : Told). Called P list before r (reported P small list before stands-there m refl .list)) (ap toldReport (sym e) ∙ sym tells) there in
+      let y = subst (λ (r : List ℕ). Called P list before told r) (ap (λ (r : Report). r .list) (sym e) ∙ sym (l ∙ list-after)) x in
+      subst (λ (R : Problem). Called R list before told after) (sym (problem-is is)) y

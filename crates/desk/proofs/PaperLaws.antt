@@ -1,0 +1,57 @@
+-- What is known of the problem of accepted papers. Assumes nothing.
+use mathlib.Core.Path.{_≡_, ap, _∙_}
+use mathlib.Core.List.{List}
+use Prim.Native.Nat.{ℕ, _≤_, _<_}
+use native.Mathlib.Omega.{arith}
+use native.Mathlib.Nat.{pow-le-pow-right}
+use lib.ListN.{length}
+use Rattle.papers.specs.Valid.{All, Valid}
+use Rattle.papers.specs.Outcome.{Outcome, accepted}
+use Rattle.papers.specs.Reading.{Papers, readFile, readSheet, readPapers}
+use Rattle.papers.proofs.Checks.{through}
+use Rattle.papers.proofs.Lists.{all-each}
+use Rattle.papers.proofs.Accepted.{accepted-valid}
+use Rattle.dual.specs.Answers.{dualOf}
+use Rattle.dual.proofs.Lengths.{dual-length}
+use Rattle.dual.proofs.Bound.{dual-bound}
+use Rattle.model.proofs.Rounds.{rounds-le}
+use Rattle.search.specs.Scenarios.{Problem, scenarios}
+use Rattle.search.specs.Searching.{problemOf}
+use Rattle.desk.specs.Search.{problemFor}
+
+pub problem-is : {read : Outcome Papers} {q : Papers} → read ≡ accepted q → problemFor read ≡ problemOf q
+unfolding problemFor
+problem-is e = rw e
+
+-- A problem within document 01's limits: at most 16 abducibles, and "at most 2N" rounds.
+pub record Small (P : Problem) : Type 0 where
+  pub few : scenarios P ≤ 43046721
+  pub rounds : (s : ℕ) → P .rounds s ≤ 1026
+
+module _ (file sheet : List ℕ) {q : Papers} (is : readPapers file sheet ≡ accepted q) where
+  pub file-accepted : readFile file ≡ accepted (q .program)
+  unfolding readPapers
+  file-accepted =
+      let f = through (readFile file) _ is in
+      let s = through (readSheet (f .value .atoms) sheet) _ (f .after) in
+      let same : f .value ≡ q .program = cc in
+      f .first ∙ ap accepted same
+
+  pub program-valid : Valid (q .program)
+  program-valid = accepted-valid file (q .program) file-accepted
+
+  pub dual-few : length (dualOf (q .program)) ≤ 52488
+  dual-few = omega (arith, dual-length (q .program), dual-bound (q .program) program-valid)
+
+  pub small : Small (problemOf q)
+  small =
+      let v = program-valid in
+      let p = pow-le-pow-right {n = 3} (omega arith) {i = length (q .program .abducibles)} {j = 16} (v .fewAbducibles) in
+      record {
+        few = omega arith;
+        rounds = λ s. let r = rounds-le (q .program) s in let a = v .fewAtoms in omega arith;
+      }
+
+  -- An abducible's number has at most three digits.
+  pub abducibles-below : All (_< 1000) (q .program .abducibles)
+  abducibles-below = let few = program-valid .fewAtoms in all-each (λ a h. omega arith) (program-valid .abduciblesListed)

@@ -1,0 +1,91 @@
+-- `desk::searching::search_all` meets its contract. The loop's invariant: the calls stand where they reached, and are finished where they do not go on.
+-- Assumes nothing.
+use mathlib.Core.Path.{_≡_, refl, sym, subst, _∙_}
+use mathlib.Core.Bool.{Bool, false}
+use Prim.Native.Nat.{ℕ, _≤_, _<_}
+use native.Mathlib.Omega.{arith}
+use borrow.Author.Needs.{needs}
+use denote.Ref.{now}
+use lib.ListN.{length}
+use Rattle.papers.specs.Reading.{readPapers}
+use Rattle.search.specs.Scenarios.{stop}
+use Rattle.desk.specs.Search.{problemFor, Stands, GoneOn, Finished}
+use Rattle.desk.proofs.TurnLaws.{left, Turned, turned, begins}
+use Rattle.desk.proofs.searching.search_all.Statement.{statement}
+use Rattle.desk.proofs.searching.search_all.Tie as tie
+
+abbrev Inv-loop : tie.InvT-loop
+Inv-loop file sheet dual₀ list₀ progress₀ going₀ dual list progress going =
+    Stands (problemFor (readPapers file sheet)) list progress
+    × ((going ≡ false → Finished (problemFor (readPapers file sheet)) (length list₀) progress)
+    × ((length dual ≡ length dual₀) × (length list ≡ length list₀)))
+
+abbrev μ-loop : tie.MeasureT-loop
+μ-loop file sheet dual₀ list₀ progress₀ going₀ dual list progress going = left (problemFor (readPapers file sheet)) progress going
+
+-- One turn.
+turn : (c : tie.After-is-going Inv-loop μ-loop)
+    → Turned (problemFor (readPapers (now (c .before .before .before .before .before .before .before .before .before .before .before .before .before .before .before .args .file)) (now (c .before .before .before .before .before .before .before .before .before .before .before .before .before .before .before .args .sheet)))) (length (now (c .before .before .before .before .before .before .before .before .before .before .before .before .before .before .before .args .list))) (c .before .before .before .before .before .before .before .before .before .loop .progress) (c .before .before .before .before .before .go-on .result) (c .is-going .result)
+turn c =
+    let a = c .before .before .before .before .before .before .before .before .before .before .before .before .before .before .before .args in
+    let l = c .before .before .before .before .before .before .before .before .before .loop in
+    let g = c .before .before .before .before .before .go-on in
+    let P = problemFor (readPapers (now (a .file)) (now (a .sheet))) in
+    let L = length (now (a .list)) in
+    let e = l .inv .1 .1 .1 in
+    let within = subst (λ (n : ℕ). l .progress .reached .position ≤ stop P n) e (l .inv .0 .within) in
+    let gone = subst (λ (n : ℕ). GoneOn P n (l .progress) (g .result)) e (g .ensures .1) in
+    subst (Turned P L (l .progress) (g .result)) (sym (c .is-going .ensures)) (turned P L (l .progress) (g .result) within gone)
+
+fresh-requires : tie.Need-fresh-requires Inv-loop μ-loop
+fresh-requires c κs = search needs
+
+loop-holds : tie.Need-loop-holds Inv-loop μ-loop
+loop-holds c =
+    let a = c .before .before .before .before .before .args in (
+      begins (problemFor (readPapers (now (a .file)) (now (a .sheet)))) (now (a .list)) _ (c .fresh .ensures) refl refl,
+      ((λ h. absurd (let z : _≡_ {A = ℕ} 0 1 = cc in omega arith)), (refl, refl)),
+    )
+
+go-on-requires : tie.Need-go-on-requires Inv-loop μ-loop
+go-on-requires c κs =
+    let start = c .before .before .before .before .before .before .before .before .before in
+    let l = c .before .before .before .loop in
+    (start .pre .0, (let e = l .inv .1 .1 .0 in let h = start .pre .1 in omega arith, l .inv .0))
+
+is-going-requires : tie.Need-is-going-requires Inv-loop μ-loop
+is-going-requires c κs = search needs
+
+loop-less : tie.Need-loop-less Inv-loop μ-loop
+loop-less c = subst (λ (x : Bool). left (problemFor (readPapers (now (c .before .before .before .before .before .before .before .before .before .before .before .before .before .before .before .args .file)) (now (c .before .before .before .before .before .before .before .before .before .before .before .before .before .before .before .args .sheet)))) (c .before .before .before .before .before .go-on .result) (c .is-going .result) < left (problemFor (readPapers (now (c .before .before .before .before .before .before .before .before .before .before .before .before .before .before .before .args .file)) (now (c .before .before .before .before .before .before .before .before .before .before .before .before .before .before .before .args .sheet)))) (c .before .before .before .before .before .before .before .before .before .loop .progress) x) (sym (c .before .before .before .before .before .before .before .before .loop-test .taken)) (turn c .nearer)
+
+loop-again : tie.Need-loop-again Inv-loop μ-loop
+loop-again c =
+    let l = c .before .before .before .before .before .before .before .before .before .loop in
+    let g = c .before .before .before .before .before .go-on in
+    (g .ensures .0, (turn c .finished, (g .kept .1 .1 .0 ∙ l .inv .1 .1 .0, g .kept .1 .1 .1 .0 ∙ l .inv .1 .1 .1)))
+
+same-length : tie.Need-same-length Inv-loop μ-loop
+same-length c = c .before .loop .inv .1 .1 .0
+
+same-length-2 : tie.Need-same-length-2 Inv-loop μ-loop
+same-length-2 c = c .before .loop .inv .1 .1 .1
+
+returns : tie.Need-returns Inv-loop μ-loop
+returns c = (c .before .loop .inv .0, c .before .loop .inv .1 .0 (c .loop-test .left))
+
+pub search-all-spec : {M : Type 1} → statement M
+search-all-spec =
+    tie.close
+    (tie.spec
+    Inv-loop
+    μ-loop
+    fresh-requires
+    loop-holds
+    go-on-requires
+    is-going-requires
+    loop-less
+    loop-again
+    same-length
+    same-length-2
+    returns)

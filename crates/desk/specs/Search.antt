@@ -1,0 +1,52 @@
+-- The calls of the desk program: "allowance 4,096 until ended or full".
+use mathlib.Core.Path.{_≡_}
+use mathlib.Core.Bool.{Bool, true, false, cond}
+use mathlib.Core.List.{List}
+use Prim.Native.Nat.{ℕ, _+_, _-_, _≤_, min}
+use lib.Dec.{eqb}
+use lib.ListN.{length, take}
+use Rattle.papers.specs.Outcome.{Outcome, accepted, refused}
+use Rattle.papers.specs.Reading.{Papers}
+use Rattle.search.specs.declared.State.{State}
+use Rattle.search.specs.declared.State.the-variants.{Going, Full, Ended}
+use Rattle.search.specs.Scenarios.{Problem, scenarios, minimals, stop, sumBelow}
+use Rattle.search.specs.Continuing.{stateBy}
+use Rattle.search.specs.Searching.{problemOf}
+use Rattle.desk.specs.declared.searching.Progress.{Progress}
+
+-- Both papers are accepted.
+pub record Accepted (read : Outcome Papers) : Type 0 where
+  pub papers : Papers
+  pub is : read ≡ accepted papers
+
+-- The problem of accepted papers. That of refused ones is of no use: no abducible and no explanation.
+unfoldable pub problemFor : Outcome Papers → Problem
+problemFor (accepted q) = problemOf q
+problemFor (refused r) = record { abducibles = 0; explains = λ s. false; rounds = λ s. 0 }
+
+unfoldable pub isGoing : State → Bool
+isGoing Going = true
+isGoing Full = false
+isGoing Ended = false
+
+-- Between two calls: the found entries are the minimal explanations below the position, the sums those of the scenarios below it.
+pub record Stands (P : Problem) (list : List ℕ) (s : Progress) : Type 0 where
+  pub within : s .reached .position ≤ stop P (length list)
+  pub found : s .reached .found ≡ length (minimals P (s .reached .position))
+  pub entries : take (s .reached .found) list ≡ minimals P (s .reached .position)
+  pub tried : s .tried ≡ s .reached .position
+  pub rounds : s .rounds ≡ sumBelow (s .reached .position) (P .rounds)
+
+-- One call on, with a list of length L.
+pub record GoneOn (P : Problem) (L : ℕ) (before after : Progress) : Type 0 where
+  pub position : after .reached .position ≡ min (stop P L) (before .reached .position + 4096)
+  pub state : after .state ≡ stateBy (scenarios P) 4096 (after .reached .position) (after .reached .position - before .reached .position)
+
+-- The state at the stopping point: "ended: position is 3^k", else full.
+unfoldable pub lastState : Problem → ℕ → State
+lastState P L = cond (eqb (stop P L) (scenarios P)) Ended Full
+
+-- Ended or full.
+pub record Finished (P : Problem) (L : ℕ) (s : Progress) : Type 0 where
+  pub position : s .reached .position ≡ stop P L
+  pub state : s .state ≡ lastState P L
