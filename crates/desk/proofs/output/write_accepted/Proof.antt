@@ -11,9 +11,8 @@ use Rattle.papers.specs.Field.{numbers}
 use Rattle.papers.specs.Reading.{readPapers, programIn}
 use Rattle.papers.proofs.FoldAnswers.{abducibles-there}
 use Rattle.papers.proofs.PapersAnswers.{BothTold, both-told}
-use Rattle.dual.proofs.FileFacts.{atoms-are}
-use Rattle.search.proofs.JudgedLanes.{abducibles-are}
-use Rattle.search.proofs.AnswerLaws.{few-abducibles}
+use Rattle.dual.proofs.FileFacts.{atoms-are, abducibles-are}
+use Rattle.dual.proofs.BothPapers.{few-abducibles}
 use Rattle.search.specs.Searching.{problemOf}
 use Rattle.desk.specs.Search.{problemFor}
 use Rattle.desk.specs.Output.{foundLines}
