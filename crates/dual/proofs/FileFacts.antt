@@ -4,6 +4,7 @@ use mathlib.Core.Path.{_≡_, ap}
 use mathlib.Core.List.{List}
 use Prim.Native.Nat.{ℕ, _≤_}
 use native.Mathlib.Omega.{arith}
+use lib.ListN.{length}
 use Rattle.papers.specs.declared.Contents.{Contents}
 use Rattle.papers.specs.declared.FileRead.the-variants.{Accepted}
 use Rattle.papers.specs.Reading.{readFile, programIn}
@@ -20,6 +21,9 @@ module _ (bytes : List ℕ) (contents : Contents) (answer : fileAnswer (readFile
 
   pub atoms-are : (programIn bytes) .atoms ≡ contents .atoms
   atoms-are = ap (λ (x : Contents). x .atoms) (told bytes contents answer .contents-are)
+
+  pub abducibles-are : length ((programIn bytes) .abducibles) ≡ contents .abducibles
+  abducibles-are = ap (λ (x : Contents). x .abducibles) (told bytes contents answer .contents-are)
 
   pub few-atoms : contents .atoms ≤ 256
   few-atoms = let a = atoms-are in omega (arith, program-valid .fewAtoms)

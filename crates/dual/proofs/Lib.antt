@@ -10,3 +10,4 @@ pub mod WritingLaws
 pub mod EntryWriting
 pub mod TableWriting
 pub mod EntryLaws
+pub mod BothPapers

@@ -1,25 +1,15 @@
 -- What judging tells of 64 scenarios, as the steps need it.
 -- Assumes nothing.
-use mathlib.Core.Path.{_≡_, ap}
+use mathlib.Core.Path.{_≡_}
 use mathlib.Core.List.{List}
 use Prim.Native.Nat.{ℕ, _+_, _≤_, _<_}
 use native.Mathlib.Omega.{arith}
 use lib.ListN.{length, getD}
-use Rattle.papers.specs.declared.Contents.{Contents}
-use Rattle.papers.specs.declared.FileRead.the-variants.{Accepted}
 use Rattle.papers.specs.Program.{Program, Query}
-use Rattle.papers.specs.Reading.{readFile, programIn}
-use Rattle.papers.specs.Answers.{fileAnswer}
-use Rattle.papers.proofs.FoldAnswers.{told}
 use Rattle.lanes.specs.VerdictLanes.{VerdictLanes}
 use Rattle.model.proofs.Rounds.{rounds-le}
 use Rattle.search.specs.Stepping.{InLanes}
 use Rattle.search.specs.Searching.{problemOf}
-
--- How many abducibles there are.
-pub abducibles-are : (bytes : List ℕ) (contents : Contents) → fileAnswer (readFile bytes) ≡ Accepted contents
-    → length ((programIn bytes) .abducibles) ≡ contents .abducibles
-abducibles-are bytes contents answer = ap (λ (x : Contents). x .abducibles) (told bytes contents answer .contents-are)
 
 module _ (p : Program) (q : Query) {base word : ℕ} {counts : List ℕ} (v : VerdictLanes p q base word counts) where
   -- Each scenario's verdict and its round count are in its lane.

@@ -10,6 +10,7 @@
 //! * [`rounds`] puts these together into pairs of papers, and [`files`] into
 //!   files for their duals;
 //! * [`lent`] makes the buffers and lists that are lent;
+//! * [`examples`] are calls that were not made at random;
 //! * [`coverage`] counts which answers came to pairs of papers, and knows which
 //!   must; [`dual_coverage`] does so for the writing of duals, [`judge_coverage`]
 //!   for judging and [`search_coverage`] for continuing, the last two with the
@@ -22,6 +23,7 @@ pub mod causes;
 pub mod coverage;
 pub mod damage;
 pub mod dual_coverage;
+pub mod examples;
 pub mod fields;
 pub mod files;
 pub mod judge_coverage;

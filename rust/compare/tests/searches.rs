@@ -119,6 +119,7 @@ impl Terms {
         let left = papers.scenarios.saturating_sub(record.position);
         let allowance = an_allowance(random, pace, left);
         Terms {
+            // Where more are left than can be gone through, less is allowed.
             allowance: if left > 10_000 {
                 allowance.min(300)
             } else {

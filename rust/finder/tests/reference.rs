@@ -141,7 +141,7 @@ fn an_empty_file_is_refused_1_at_place_0() {
 #[test]
 fn atoms_256_pass_and_257_do_not() {
     let with_atoms = |count: u16| {
-        let mut file = file("", "", "");
+        let mut file = file("a", "", "");
         file[7..9].copy_from_slice(&count.to_be_bytes());
         file
     };

@@ -2,25 +2,22 @@
 -- Assumes nothing.
 use mathlib.Core.Path.{_≡_, sym, ap, subst, _∙_}
 use mathlib.Core.Bool.{not}
-use mathlib.Core.Logic.{_⊎_, inl, inr}
 use Prim.Native.Nat.{ℕ, _≤_}
 use native.Mathlib.Omega.{arith}
 use borrow.Author.Needs.{needs}
 use denote.Ref.{now}
-use denote.Enum.Declared.{tagOf}
 use Rattle.papers.specs.declared.PapersRead.the-variants.{Accepted}
 use Rattle.papers.specs.Reading.{readPapers, programIn}
 use Rattle.papers.specs.Answers.{papersAnswer}
 use Rattle.papers.proofs.Answered.{papers-refused}
 use Rattle.papers.proofs.FoldAnswers.{told}
 use Rattle.papers.proofs.PapersAnswers.{BothTold, both-told}
-use Rattle.dual.proofs.DualWritten.{the-type}
+use Rattle.dual.proofs.BothPapers.{papersIn, both-read, both-asked, few-abducibles, few-literals, scenarios-are}
+use Rattle.dual.proofs.BothPapers.{other-told, dual-fits, dual-short, dual-stays, dual-kept, dual-filled}
 use Rattle.dual.proofs.FileFacts.{program-valid}
 use Rattle.lanes.specs.FalseWords.{DualStarts}
 use Rattle.lanes.proofs.DroppedLaws.{filled-starts}
-use Rattle.search.proofs.AnswerLaws.{papersIn, both-read, both-asked, few-abducibles, few-literals, scenarios-are, spoilt-is}
-use Rattle.search.proofs.AnswerLaws.{dual-fits, dual-short, dual-stays, dual-kept, dual-filled}
-use Rattle.search.proofs.AnswerLaws.{answers-refused, answers-short, answers-spoilt, answers-report}
+use Rattle.search.proofs.AnswerLaws.{spoilt-is, answers-refused, answers-short, answers-spoilt, answers-report}
 use Rattle.search.proofs.continue_search.Statement.{statement}
 use Rattle.search.proofs.continue_search.Tie as tie
 
@@ -35,11 +32,6 @@ both c = both-told (now (c .before .before .before .before .before .before .befo
 
 few : (c : tie.After-known-told) → c .before .read .given .0 .1 .0 ≤ 16
 few c = few-literals (both c) (answer c)
-
--- Length's tag is neither of the others'.
-never : {t : ℕ} → t ≡ 0 → (t ≡ 1) ⊎ (t ≡ 2) → ⊥
-never e (inl h) = omega arith
-never e (inr h) = omega arith
 
 read-papers-requires : tie.Need-read-papers-requires
 read-papers-requires c κs = search needs
@@ -92,7 +84,7 @@ returns-3 c =
     let k = both (c .before .before .before .before .before .before .before .before .before .before) in
     let w = c .before .before .before .write-accepted .ensures in
     let program = told (now (a .file)) _ (k .answer) .is in
-    let short = dual-short program (now (a .dual)) (w .0) (λ n e. never (ap (tagOf the-type) e) (c .match3 .keys2)) in
+    let short = dual-short program (now (a .dual)) (w .0) (other-told (c .before .before .before .write-accepted .result) (c .match3 .keys2)) in
     answers-short (papersIn (now (a .file)) (now (a .sheet)) (c .before .before .before .before .before .before .before .before .before .before .before .read .given .0 .1 .0)) (both-read k (λ i. c .before .before .before .before .before .before .before .before .before .before .before .before .before .before .before .before .shared-slice-known2 .given i .fits))
     (a .allowance) (now (a .dual)) (a .from) (now (a .list)) short
     (dual-stays program (not (c .before .before .before .before .before .before .before .is-spoilt .result)) (now (a .dual)) (w .1) short)

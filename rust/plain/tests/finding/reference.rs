@@ -121,7 +121,7 @@ fn the_last_scenario_passes_and_the_next_does_not() {
     let sheet = bytes(&["06 0000 7F 0000"]);
     for (abducibles, scenarios) in [("", 1), ("a", 3), ("a b", 9), ("a b c", 27)] {
         let program = program("a b c", abducibles, "");
-        let (judgement, _) = judged(&program, &query("", ""), scenarios - 1);
+        let (judgement, _) = judged(&program, &query("a b c", ""), scenarios - 1);
         assert!(judgement.explains);
         let file = encode_file(&program);
         for scenario in [scenarios, scenarios + 1, u32::MAX] {

@@ -1,0 +1,129 @@
+//! The calls told in `examples/`: their papers are those of their rules, and
+//! both finders give what is expected, the one behind the C boundary however its
+//! work is sliced.
+
+use assemble::parse;
+use compare::examples::{examples, Example};
+use finder::{continue_search, judge, Record, State};
+use plain::desk::LIST_LENGTH;
+use plain::dual::LONGEST_DUAL;
+use plain::{minimal_explanations, minimal_of, read_papers, scenario_count};
+
+const LONGEST_MODEL: usize = 513;
+
+const ALLOWANCES: [u32; 8] = [1, 2, 3, 7, 63, 64, 65, u32::MAX];
+
+fn each(check: impl Fn(&Example)) {
+    let examples = examples();
+    assert!(examples.len() >= 3, "{} examples", examples.len());
+    for example in &examples {
+        println!("{}", example.folder.display());
+        check(example);
+    }
+}
+
+/// The scenarios found by what the desk program prints.
+fn found(printed: &str) -> Vec<u32> {
+    let lines = printed
+        .lines()
+        .filter_map(|line| line.strip_prefix("found "));
+    let numbers = lines.filter_map(|line| line.split(' ').next());
+    numbers
+        .map(|number| number.parse().expect("a scenario"))
+        .collect()
+}
+
+/// Searches with these allowances, one a call, until the search has ended, and
+/// compares what is found and the sums over all calls with what is expected.
+fn search(example: &Example, allowances: impl Iterator<Item = u32>) {
+    let Example { causes, sheet, .. } = example;
+    let mut dual = vec![0; LONGEST_DUAL];
+    let mut list = vec![u32::MAX; LIST_LENGTH];
+    let mut record = Record::FRESH;
+    let (mut tried, mut rounds) = (0, 0);
+    for allowance in allowances {
+        let answer = continue_search(causes, sheet, &mut dual, &mut list, record, allowance);
+        let continued = answer.expect("an accepted call");
+        record = continued.record;
+        tried += continued.tried;
+        rounds += continued.rounds;
+        if continued.state == State::Ended {
+            break;
+        }
+        assert_eq!(continued.state, State::Going);
+    }
+    assert_eq!(list[..record.found as usize], found(&example.expected));
+    let last_line = format!("ended tried {tried} rounds {rounds}\n");
+    assert!(example.expected.ends_with(&last_line), "{last_line}");
+}
+
+#[test]
+fn the_papers_are_those_of_the_rules() {
+    each(|example| {
+        let call = parse(&example.rules).unwrap_or_else(|mistake| panic!("{mistake}"));
+        assert_eq!(call.causes(), example.causes);
+        assert_eq!(call.sheet(), example.sheet);
+    });
+}
+
+#[test]
+fn the_separate_finder_prints_what_is_expected() {
+    each(|example| {
+        let printed = plain::desk(Some(&example.causes), Some(&example.sheet));
+        assert_eq!(printed, example.expected);
+    });
+}
+
+#[test]
+fn every_slicing_finds_what_is_expected() {
+    each(|example| {
+        for allowance in ALLOWANCES {
+            search(example, std::iter::repeat(allowance));
+        }
+        search(example, ALLOWANCES[..7].iter().copied().cycle());
+    });
+}
+
+#[test]
+fn judging_each_scenario_finds_what_is_expected() {
+    each(|example| {
+        let Example { causes, sheet, .. } = example;
+        let (program, _) = read_papers(causes, sheet).expect("accepted papers");
+        let (mut dual, mut model) = (vec![0; LONGEST_DUAL], vec![0; LONGEST_MODEL]);
+        let mut explains = |scenario| {
+            let judgement = judge(causes, sheet, scenario, &mut dual, &mut model);
+            judgement.expect("an accepted call").explains
+        };
+        let mut explanations: Vec<u32> = (0..scenario_count(&program)).collect();
+        explanations.retain(|&scenario| explains(scenario));
+        assert_eq!(minimal_of(&explanations), found(&example.expected));
+    });
+}
+
+#[test]
+fn each_readme_has_the_numbers_of_the_atoms_and_the_output() {
+    each(|example| {
+        let call = parse(&example.rules).expect("a text without a mistake");
+        for (atom, name) in call.names.iter().enumerate() {
+            let row = format!("\n| {atom} | `{name}` |");
+            assert!(example.readme.contains(&row), "no row{row}");
+        }
+        let lines = example.expected.lines();
+        let output: String = lines.map(|line| format!("    {line}\n")).collect();
+        assert!(example.readme.contains(&output), "no output\n{output}");
+    });
+}
+
+#[test]
+fn without_its_integrity_rule_both_of_two_sensors_are_right() {
+    let examples = examples();
+    let mut of_name = examples
+        .iter()
+        .filter(|example| example.folder.ends_with("two-sensors"));
+    let example = of_name.next().expect("an example of that name");
+    let papers = read_papers(&example.causes, &example.sheet);
+    let (mut program, query) = papers.expect("accepted papers");
+    assert_eq!(minimal_explanations(&program, &query), [15, 29, 37, 39]);
+    program.integrity_bodies.clear();
+    assert_eq!(minimal_explanations(&program, &query), [8, 15, 29, 36]);
+}
