@@ -1,13 +1,18 @@
 -- What is known of the problem of accepted papers. Assumes nothing.
-use mathlib.Core.Path.{_≡_, ap, _∙_}
+use mathlib.Core.Path.{_≡_, sym, ap, _∙_}
 use mathlib.Core.List.{List}
-use Prim.Native.Nat.{ℕ, _≤_, _<_}
+use Prim.Native.Nat.{ℕ, _+_, _-_, _*_, _≤_, _<_}
 use native.Mathlib.Omega.{arith}
 use native.Mathlib.Nat.{pow-le-pow-right}
-use lib.ListN.{length}
+use lib.ListN.{length, take, drop}
+use Rattle.papers.specs.declared.Contents.{Contents}
+use Rattle.papers.specs.Field.{numbers}
 use Rattle.papers.specs.Valid.{All, Valid}
 use Rattle.papers.specs.Outcome.{Outcome, accepted}
 use Rattle.papers.specs.Reading.{Papers, readFile, readSheet, readPapers}
+use Rattle.papers.specs.Answers.{contentsOf}
+use Rattle.papers.proofs.NumberLaws.{Bytes}
+use Rattle.papers.proofs.FoldLaws.{abducibles-content, abducibles-within}
 use Rattle.papers.proofs.Checks.{through}
 use Rattle.papers.proofs.Lists.{all-each}
 use Rattle.papers.proofs.Accepted.{accepted-valid}
@@ -55,3 +60,24 @@ module _ (file sheet : List ℕ) {q : Papers} (is : readPapers file sheet ≡ ac
   -- An abducible's number has at most three digits.
   pub abducibles-below : All (_< 1000) (q .program .abducibles)
   abducibles-below = let few = program-valid .fewAtoms in all-each (λ a h. omega arith) (program-valid .abduciblesListed)
+
+  -- By the file's counts.
+  module _ {contents : Contents} (told : contentsOf (q .program) ≡ contents) where
+    pub listed-are : length (q .program .abducibles) ≡ contents .abducibles
+    listed-are = ap (λ (x : Contents). x .abducibles) told
+
+    pub few-listed : contents .abducibles ≤ 16
+    few-listed = let e = listed-are in let v = program-valid .fewAbducibles in omega arith
+
+    pub atoms-told : q .program .atoms ≡ contents .atoms
+    atoms-told = ap (λ (x : Contents). x .atoms) told
+
+    -- The abducibles are the numbers of the part of the file from place 12 on.
+    module _ (bytes : Bytes file) where
+      pub listed-within : 12 + 2 * contents .abducibles ≤ length file
+      listed-within = let e = listed-are in let w = abducibles-within file (q .program) bytes file-accepted in omega arith
+
+      pub listed-there : q .program .abducibles ≡ numbers (take (12 + 2 * contents .abducibles - 12) (drop 12 file))
+      listed-there =
+          let e : 2 * length (q .program .abducibles) ≡ 12 + 2 * contents .abducibles - 12 = let k = listed-are in omega arith in
+          sym (abducibles-content file (q .program) bytes file-accepted) ∙ ap (λ (n : ℕ). numbers (take n (drop 12 file))) e

@@ -5,8 +5,10 @@ use mathlib.Core.List.{List}
 use Prim.Native.Nat.{ℕ, _+_, _-_, _≤_, min}
 use lib.Dec.{eqb}
 use lib.ListN.{length, take}
+use Rattle.papers.specs.declared.Contents.{Contents}
 use Rattle.papers.specs.Outcome.{Outcome, accepted, refused}
 use Rattle.papers.specs.Reading.{Papers}
+use Rattle.papers.specs.Answers.{contentsOf}
 use Rattle.search.specs.declared.State.{State}
 use Rattle.search.specs.declared.State.the-variants.{Going, Full, Ended}
 use Rattle.search.specs.Scenarios.{Problem, scenarios, minimals, stop, sumBelow}
@@ -18,6 +20,12 @@ use Rattle.desk.specs.declared.searching.Progress.{Progress}
 pub record Accepted (read : Outcome Papers) : Type 0 where
   pub papers : Papers
   pub is : read ≡ accepted papers
+
+-- And the file has these counts and places.
+pub record AcceptedAs (read : Outcome Papers) (contents : Contents) : Type 0 where
+  pub papers : Papers
+  pub is : read ≡ accepted papers
+  pub told : contentsOf (papers .program) ≡ contents
 
 -- The problem of accepted papers. That of refused ones is of no use: no abducible and no explanation.
 unfoldable pub problemFor : Outcome Papers → Problem

@@ -2,11 +2,10 @@
 ghost use mathlib.Core.Path.{_≡_};
 ghost use Prim.Native.Nat.{_≤_, _<_, _^_};
 ghost use lib.ListN.{length, take};
-ghost use Rattle.papers.specs.declared.PapersRead.{PapersRead};
 ghost use Rattle.papers.specs.Field.{numbers};
 ghost use Rattle.papers.specs.Reading.{readPapers};
-ghost use Rattle.papers.specs.Answers.{papersAnswer};
 ghost use Rattle.report.specs.Text.{Put};
+ghost use Rattle.desk.specs.Search.{AcceptedAs};
 ghost use Rattle.desk.specs.Output.{stateOf, foundLines, deskText};
 use crate::searching::search_all;
 use lanes::digits::scenario_count;
@@ -49,12 +48,11 @@ fn write_accepted(
     file: &[u8],
     sheet: &[u8],
     contents: Contents,
-    literals: usize,
     dual: &mut [u8],
     list: &mut [u32],
     out: &mut [u8],
 ) -> usize
-    requires { ⌜ (papersAnswer (readPapers (now file) (now sheet)) ≡ PapersRead.Accepted contents literals) × ((52488 ≤ length (now dual)) × (length (now list) ≡ 1024)) ⌝ }
+    requires { ⌜ AcceptedAs (readPapers (now file) (now sheet)) contents × ((52488 ≤ length (now dual)) × (length (now list) ≡ 1024)) ⌝ }
     ensures { λ r. ⌜ Put 0 (deskText (readPapers (now (file .entry)) (now (sheet .entry)))) (now (out .entry)) r (now (out .exit)) × (r ≤ 98304) ⌝ }
 {
     let count = contents.abducibles;
@@ -85,11 +83,11 @@ pub(crate) fn write_report(
     ensures { λ r. ⌜ Put 0 (deskText (readPapers (now (file .entry)) (now (sheet .entry)))) (now (out .entry)) r (now (out .exit)) × (r ≤ 98304) ⌝ }
 {
     let read = reading::read_papers(file, sheet);
-    let PapersRead::Accepted(contents, literals) = read else {
+    let PapersRead::Accepted(contents, _) = read else {
         let PapersRead::Refused(refusal) = read else {
             return 0;
         };
         return report::write_refused(out, 0, refusal);
     };
-    write_accepted(file, sheet, contents, literals, dual, list, out)
+    write_accepted(file, sheet, contents, dual, list, out)
 }

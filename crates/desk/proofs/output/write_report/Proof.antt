@@ -1,11 +1,11 @@
 -- `desk::output::write_report` meets its contract.
 -- Assumes nothing.
-use mathlib.Core.Path.{sym, _∙_}
+use mathlib.Core.Path.{_∙_}
 use native.Mathlib.Omega.{arith}
 use borrow.Author.Needs.{needs}
 use denote.Ref.{now}
 use Rattle.papers.specs.Reading.{readPapers}
-use Rattle.papers.proofs.Answered.{papers-refused}
+use Rattle.papers.proofs.Answered.{papers-accepted, papers-refused}
 use Rattle.desk.specs.Output.{deskText}
 use Rattle.desk.proofs.output.write_report.Statement.{statement}
 use Rattle.desk.proofs.output.write_report.Tie as tie
@@ -43,7 +43,10 @@ returns-2 c =
     (rw e (put .0), let m = put .1 in omega arith)
 
 write-accepted-requires : tie.Need-write-accepted-requires
-write-accepted-requires c κs = let start = c .before .before .before .before .before .before .before .before .before .before .before .before in (sym (c .before .before .before .before .before .before .read-papers .ensures) ∙ c .before .before .before .before .read .given .1, (start .pre .0, start .pre .1))
+write-accepted-requires c κs =
+    let start = c .before .before .before .before .before .before .before .before .before .before .before .before in
+    let q = papers-accepted (readPapers (now (start .args .file)) (now (start .args .sheet))) (c .before .before .before .before .before .before .read-papers .ensures) (c .before .before .before .before .read .given .1) in
+    (record { papers = q .papers; is = q .is; told = q .told }, (start .pre .0, start .pre .1))
 
 same-length-2 : tie.Need-same-length-2
 same-length-2 c = search needs
