@@ -12,7 +12,7 @@ use Rattle.report.specs.Decimal.{digits, decimal}
 use Rattle.report.specs.Text.{spaced, line}
 use Rattle.report.specs.Lines.{stateWord, sign, assumption, assumptions, headingLine, foundLine, lastLine}
 use Rattle.desk.specs.Search.{lastState}
-use Rattle.desk.specs.Output.{stateOf, foundLines, searchText, deskText}
+use Rattle.desk.specs.Output.{foundLines, searchText, deskText}
 
 -- File `01 0001 01 02 0002 0002 03 0002 0001 04 0004 0000 0004 7F 0000`,
 pub causes : List ℕ
@@ -37,5 +37,5 @@ reads = refl
 -- found 1 1+
 -- ended tried 3 rounds 3
 pub printed : deskText (readPapers causes sheet) ≡ 97 ∷ 116 ∷ 111 ∷ 109 ∷ 115 ∷ 32 ∷ 50 ∷ 32 ∷ 97 ∷ 98 ∷ 100 ∷ 117 ∷ 99 ∷ 105 ∷ 98 ∷ 108 ∷ 101 ∷ 115 ∷ 32 ∷ 49 ∷ 32 ∷ 115 ∷ 99 ∷ 101 ∷ 110 ∷ 97 ∷ 114 ∷ 105 ∷ 111 ∷ 115 ∷ 32 ∷ 51 ∷ 10 ∷ 102 ∷ 111 ∷ 117 ∷ 110 ∷ 100 ∷ 32 ∷ 49 ∷ 32 ∷ 49 ∷ 43 ∷ 10 ∷ 101 ∷ 110 ∷ 100 ∷ 101 ∷ 100 ∷ 32 ∷ 116 ∷ 114 ∷ 105 ∷ 101 ∷ 100 ∷ 32 ∷ 51 ∷ 32 ∷ 114 ∷ 111 ∷ 117 ∷ 110 ∷ 100 ∷ 115 ∷ 32 ∷ 51 ∷ 10 ∷ []
-unfolding deskText searchText foundLines lastState stateOf headingLine foundLine lastLine stateWord assumptions assumption sign line spaced decimal digits modelling computing
+unfolding deskText searchText foundLines lastState headingLine foundLine lastLine stateWord assumptions assumption sign line spaced decimal digits modelling computing
 printed = ap deskText reads ∙ refl

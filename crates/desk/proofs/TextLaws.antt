@@ -16,14 +16,13 @@ use Rattle.search.specs.Searching.{problemOf}
 use Rattle.search.proofs.Tests.{left, right}
 use Rattle.search.proofs.Stopping.{stop-le, stop-count}
 use Rattle.search.proofs.Sound.{minimals-below}
-use Rattle.report.specs.declared.State.{State as Word}
 use Rattle.report.specs.Text.{Put}
 use Rattle.report.specs.Lines.{headingLine, foundLine, lastLine}
 use Rattle.report.proofs.Putting.{put-two}
 use Rattle.report.proofs.LineLengths.{found-length}
 use Rattle.desk.specs.declared.searching.Progress.{Progress}
 use Rattle.desk.specs.Search.{problemFor, Stands, lastState, Finished}
-use Rattle.desk.specs.Output.{stateOf, foundLines, searchText, deskText}
+use Rattle.desk.specs.Output.{foundLines, searchText, deskText}
 use Rattle.desk.proofs.PaperLaws.{Small, problem-is}
 
 -- ---- the found lines, one by one
@@ -72,12 +71,12 @@ lines-few P small list s stands abducibles below short =
 
 module _ {read : Outcome Papers} {q : Papers} (is : read ≡ accepted q) {L : ℕ} {list : List ℕ} {s : Progress} (stands : Stands (problemFor read) list s)
     (finished : Finished (problemFor read) L s) where
-  pub text-put : {n k total first second third : ℕ} {abducibles out one two three : List ℕ} {w : Word}
-      → q .program .atoms ≡ n → length (q .program .abducibles) ≡ k → 3 ^ k ≡ total → q .program .abducibles ≡ abducibles → stateOf (s .state) ≡ w
+  pub text-put : {n k total first second third : ℕ} {abducibles out one two three : List ℕ}
+      → q .program .atoms ≡ n → length (q .program .abducibles) ≡ k → 3 ^ k ≡ total → q .program .abducibles ≡ abducibles
       → Put 0 (headingLine n k total) out first one → Put first (foundLines abducibles (take (s .reached .found) list)) one second two
-      → Put second (lastLine w (s .tried) (s .rounds)) two third three → Put 0 (searchText q L) out third three
+      → Put second (lastLine (s .state) (s .tried) (s .rounds)) two third three → Put 0 (searchText q L) out third three
   unfolding searchText
-  text-put {n = n} {k = k} {total = total} {third = third} {abducibles = abducibles} {out = out} {three = three} {w = w} en ek et ea ew heading found last =
+  text-put {n = n} {k = k} {total = total} {third = third} {abducibles = abducibles} {out = out} {three = three} en ek et ea heading found last =
       let P = problemOf q in
       let same = problem-is is in
       let here : Stands P list s = rw same at stands in
@@ -86,9 +85,9 @@ module _ {read : Outcome Papers} {q : Papers} (is : read ≡ accepted q) {L : �
       let entries : minimals P (stop P L) ≡ take (s .reached .found) list = sym (here .entries ∙ ap (minimals P) (done .position)) in
       let tried : stop P L ≡ s .tried = sym (here .tried ∙ done .position) in
       let rounds : sumBelow (stop P L) (P .rounds) ≡ s .rounds = sym (here .rounds ∙ ap (λ (m : ℕ). sumBelow m (P .rounds)) (done .position)) in
-      let state : stateOf (lastState P L) ≡ w = ap stateOf (sym (done .state)) ∙ ew in
+      let state : lastState P L ≡ s .state = sym (done .state) in
       let lines = foundLines abducibles (take (s .reached .found) list) in
-      let ending = lastLine w (s .tried) (s .rounds) in
+      let ending = lastLine (s .state) (s .tried) (s .rounds) in
       let text : searchText q L ≡ headingLine n k total ++ (lines ++ ending) =
       λ i. headingLine (en i) (ek i) (count i) ++ (foundLines (ea i) (entries i) ++ lastLine (state i) (tried i) (rounds i)) in
       subst (λ (t : List ℕ). Put 0 t out third three) (sym text) (put-two (headingLine n k total) (lines ++ ending) heading (put-two lines ending found last))

@@ -4,20 +4,10 @@ use Prim.Native.Nat.{ℕ}
 use lib.ListN.{length}
 use Rattle.papers.specs.Outcome.{Outcome, accepted, refused}
 use Rattle.papers.specs.Reading.{Papers}
-use Rattle.search.specs.declared.State.{State}
-use Rattle.search.specs.declared.State.the-variants.{Going, Full, Ended}
 use Rattle.search.specs.Scenarios.{scenarios, minimals, stop, sumBelow}
 use Rattle.search.specs.Searching.{problemOf}
-use Rattle.report.specs.declared.State.{State as Word}
-use Rattle.report.specs.declared.State.the-variants as word
 use Rattle.report.specs.Lines.{headingLine, foundLine, lastLine, refusedLine}
 use Rattle.desk.specs.Search.{lastState}
-
--- A state, as the report has it.
-unfoldable pub stateOf : State → Word
-stateOf Going = word.Going
-stateOf Full = word.Full
-stateOf Ended = word.Ended
 
 -- "Each found entry, rising, has a line."
 unfoldable pub foundLines : List ℕ → List ℕ → List ℕ
@@ -31,7 +21,7 @@ searchText q L =
     let P = problemOf q in
     headingLine (q .program .atoms) (length (q .program .abducibles)) (scenarios P)
     ++ (foundLines (q .program .abducibles) (minimals P (stop P L))
-    ++ lastLine (stateOf (lastState P L)) (stop P L) (sumBelow (stop P L) (P .rounds)))
+    ++ lastLine (lastState P L) (stop P L) (sumBelow (stop P L) (P .rounds)))
 
 -- "L = 1,024"; "a refusal prints one line alone".
 unfoldable pub deskText : Outcome Papers → List ℕ

@@ -6,22 +6,11 @@ ghost use Rattle.papers.specs.Field.{numbers};
 ghost use Rattle.papers.specs.Reading.{readPapers};
 ghost use Rattle.report.specs.Text.{Put};
 ghost use Rattle.desk.specs.Search.{AcceptedAs};
-ghost use Rattle.desk.specs.Output.{stateOf, foundLines, deskText};
+ghost use Rattle.desk.specs.Output.{foundLines, deskText};
 use crate::searching::search_all;
 use lanes::digits::scenario_count;
 use papers::Contents;
 use papers::PapersRead;
-use search::State;
-
-fn state_of(state: State) -> report::State
-    ensures { λ r. ⌜ r ≡ stateOf state ⌝ }
-{
-    match state {
-        State::Going => report::State::Going,
-        State::Full => report::State::Full,
-        State::Ended => report::State::Ended,
-    }
-}
 
 // The lines of the found entries.
 fn write_found_lines(
@@ -63,13 +52,7 @@ fn write_accepted(
     let state = progress.state;
     let first = report::write_heading(out, 0, contents.atoms as u64, count as u64, total as u64);
     let second = write_found_lines(out, first, list, reached.found as usize, &file[12..end]);
-    report::write_last(
-        out,
-        second,
-        state_of(state),
-        progress.tried,
-        progress.rounds,
-    )
+    report::write_last(out, second, state, progress.tried, progress.rounds)
 }
 
 pub(crate) fn write_report(

@@ -100,10 +100,6 @@ pub past-last : {next : List ℕ} {k : ℕ} {l : List ℕ} → Chain next k l �
 past-last (ends e) h = (refl, e)
 past-last (link few rises rest) h = absurd (omega arith)
 
-pub chain-few : {next : List ℕ} {k : ℕ} {l : List ℕ} → Chain next k l → k ≤ 1280
-chain-few (ends e) = omega arith
-chain-few (link few rises rest) = omega arith
-
 -- The folds that are met are those of the chain.
 pub followed-is : {next : List ℕ} {l : List ℕ} (room k : ℕ) → 1280 ≤ room + k → Chain next k l → followed room next k ≡ l
 unfolding followed

@@ -20,7 +20,7 @@ use Rattle.dual.proofs.Lengths.{length-one}
 use Rattle.dual.proofs.ReadBack.{encodeFields-append}
 use Rattle.dual.proofs.ChainLaws.{Link, followed-is, Following, following-starts, following-done, following-link, following-next}
 use Rattle.dual.proofs.EntryLaws.{first-of}
-use Rattle.dual.proofs.FilledLaws.{filled-length, filled-part, filled-again, filled-whole}
+use Rattle.dual.proofs.FilledLaws.{filled-part, filled-again, filled-whole}
 
 -- The fields of folds, and one of them.
 abbrev pub foldBytes : List Rule → List ℕ → List ℕ
@@ -110,9 +110,6 @@ module _ (p : Program) (next : List ℕ) (o base : ℕ) (start buffer : List ℕ
         let d = ap length (fold-cons (allRules p) fold (linked .more)) in
         let e = length-append (oneFold (allRules p) fold) (foldBytes (allRules p) (linked .more)) in
         omega (arith, w .ends)
-
-    pub entered-length : length buffer ≡ length start
-    entered-length = ap length (w .written) ∙ filled-length (take base start ++ foldBytes (allRules p) (w .follows .done)) start (let l = prefix in let r = entered-room in omega arith)
 
     -- The part from `end` on is filled with it.
     pub entered-next : (part : List ℕ) (size : ℕ) → part ≡ filled (oneFold (allRules p) fold) (drop end buffer) → size ≡ length (oneFold (allRules p) fold)

@@ -11,9 +11,6 @@ use Rattle.papers.specs.Encoding.{encodeNumbers}
 use Rattle.papers.proofs.NumberLaws.{length-encoded}
 use Rattle.dual.specs.Answers.{filled}
 
-pub filled-length : (bytes buffer : List ℕ) → length bytes ≤ length buffer → length (filled bytes buffer) ≡ length buffer
-filled-length bytes buffer h = simp (length-append, length-drop) (omega arith)
-
 -- One byte more.
 pub filled-set : (bytes buffer : List ℕ) (b : ℕ) → length bytes < length buffer → set (filled bytes buffer) (length bytes) b ≡ filled (bytes ++ b ∷ []) buffer
 filled-set bytes buffer b h =
@@ -78,9 +75,6 @@ numbered-none n start h = record { is = sym (filled-whole n start h) }
 module _ (n : ℕ) (start buffer numbers : List ℕ) (w : Numbered n start buffer numbers) (fits : n + 2 * length numbers ≤ length start) where
   prefix-length : length (take n start ++ encodeNumbers numbers) ≡ n + 2 * length numbers
   prefix-length = simp (length-append, length-encoded) (let t = length-take-le n start (omega arith) in omega arith)
-
-  pub numbered-length : length buffer ≡ length start
-  numbered-length = ap length (w .is) ∙ filled-length (take n start ++ encodeNumbers numbers) start (let l = prefix-length in omega arith)
 
   pub numbered-more : (at v : ℕ) → at ≡ n + 2 * length numbers → at + 1 < length start
       → Numbered n start (set (set buffer at (v / 256)) (at + 1) (v % 256)) (numbers ++ v ∷ [])

@@ -86,9 +86,6 @@ among-all {P} (each {a} {more} p rest) k e = go (eqb a k) refl e (among-all rest
   go true t e ih = let q : a ≡ k = eqb-true a k t in rw q at p
   go false t e ih = ih e
 
-pub among-tells : (j : ℕ) (rules : List Rule) (o k : ℕ) → isAmong (foldsFrom j rules o) k ≡ true → FoldOf j rules o k
-among-tells j rules o k e = among-all (folds-tell j rules o) k e
-
 -- ---- the folds of a program's literal
 
 -- k is the fold number of a rule with head o.

@@ -13,7 +13,7 @@ use Rattle.papers.proofs.Walking.{next-number, no-number}
 use Rattle.dual.specs.Answers.{filled}
 use Rattle.dual.specs.Chains.{Chain}
 use Rattle.dual.proofs.ChainLaws.{Following, following-starts, following-done, following-link, following-room, following-next}
-use Rattle.dual.proofs.FilledLaws.{filled-again, Numbered, numbered-none, numbered-length, numbered-more}
+use Rattle.dual.proofs.FilledLaws.{filled-again, Numbered, numbered-none, numbered-more}
 
 map-more : (f : ℕ → ℕ) (a : List ℕ) (v : ℕ) → map f (a ++ v ∷ []) ≡ map f a ++ f v ∷ []
 map-more f [] v = refl
@@ -55,9 +55,6 @@ conjugated-none start body h = record { done = []; split = refl; size = refl; wr
 module _ (start body buffer : List ℕ) (i : ℕ) (w : Conjugated start body buffer i) (fits : 5 + length body ≤ length start) where
   mapped : length (map defaultConjugate (w .done)) ≡ i
   mapped = length-map (w .done) defaultConjugate ∙ w .size
-
-  pub conjugated-length : i ≤ length body / 2 → length buffer ≡ length start
-  conjugated-length h = let m = mapped in numbered-length 5 start buffer (map defaultConjugate (w .done)) (w .written) (omega arith)
 
   pub conjugated-more : i < length body / 2 → {l v : ℕ} → l ≡ number (getD body (2 * i) 0) (getD body (2 * i + 1) 0) → v ≡ defaultConjugate l
       → Conjugated start body (set (set buffer (5 + 2 * i) (v / 256)) (5 + 2 * i + 1) (v % 256)) (i + 1)

@@ -1,7 +1,7 @@
 // The tests of a field's content. Each answers the number of the first that fails, and 0 where none
 // does.
 ghost use mathlib.Core.Path.{_≡_};
-ghost use Prim.Native.Nat.{_+_, _≤_, _<_};
+ghost use Prim.Native.Nat.{_+_, _<_};
 ghost use lib.ListN.{length};
 ghost use Rattle.papers.specs.Field.{numbers};
 ghost use Rattle.papers.specs.Content.{abduciblesFault, literalsFault, isAmong, ruleFault, bodyFault};

@@ -10,9 +10,7 @@ use lib.ListN.{length, getD, drop, set, length-set, length-append, length-drop, 
 use lib.Seq.{ext-getD, getD-append-add, getD-drop, getD-set-same, getD-set-other}
 use Rattle.literals.specs.Numbering.{judged}
 use Rattle.papers.specs.Program.{Program}
-use Rattle.papers.specs.Valid.{All.none as nothing}
 use Rattle.dual.specs.Answers.{filled}
-use Rattle.model.specs.Tests.{_and_}
 use Rattle.model.specs.Model.{model, valueByte, valueBytes, modelBytes}
 use Rattle.lanes.specs.Lanes.{inLane, lane}
 use Rattle.lanes.specs.RoundLanes.{SettledLanes}

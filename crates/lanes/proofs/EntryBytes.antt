@@ -19,7 +19,7 @@ use Rattle.papers.proofs.Encoded.{size-encoded}
 use Rattle.papers.proofs.Sizes.{length-field}
 use Rattle.papers.proofs.Lists.{all-map, all-each}
 use Rattle.papers.proofs.RuleLaws.{rule-fitting}
-use Rattle.dual.specs.Table.{foldsOf, hasEntry, foldField, entry, entryIfAny, entriesFrom, dual}
+use Rattle.dual.specs.Table.{foldsOf, hasEntry, foldField, entry, entryIfAny, entriesFrom}
 use Rattle.dual.specs.Encoding.{encodeFields}
 use Rattle.dual.proofs.ReadBack.{encodeFields-append}
 use Rattle.dual.proofs.EntryWriting.{entry-is}

@@ -17,7 +17,7 @@ use Rattle.model.specs.Sets.{Set, has, empty, full, complement}
 use Rattle.model.specs.Iteration.{iterate}
 use Rattle.model.specs.Scenarios.{trueAbducible, undefinedAbducible, falseAbducible}
 use Rattle.model.specs.LeastSet.{supported, step, least}
-use Rattle.model.specs.Model.{Interpretation, conjugateIn, possibleReduct, possibleSet, falseSet, successor}
+use Rattle.model.specs.Model.{conjugateIn, possibleReduct, possibleSet, falseSet}
 use Rattle.model.specs.Falsity.{someHolds, foldsHold, entryHolds, listedBy, backed, backedSet, greatest}
 use Rattle.model.proofs.TestLaws.{or-mono, and-mono, false-or, or-false, true-and, false-and, unless}
 use Rattle.model.proofs.SetLaws.{Sub, has-setOf, length-setOf, setOf-in, setOf-of, setOf-mono, set-ext, sub-refl, sub-antisym, has-within}
@@ -202,8 +202,3 @@ module _ (p : Program) (v : Valid p) (s : ℕ) (trues : Set) where
   pub falsity-from-dual : greatest p s (dual p) trues ≡ falseSet p s trues
   unfolding greatest falseSet possibleSet least
   falsity-from-dual = steps-down (judged (p .atoms))
-
--- So a round may read it there.
-pub successor-from-dual : (p : Program) → Valid p → (s : ℕ) (j : Interpretation) → successor p s j .falses ≡ greatest p s (dual p) (j .trues)
-unfolding successor
-successor-from-dual p v s j = sym (falsity-from-dual p v s (j .trues))

@@ -116,10 +116,6 @@ module _ (n : ℕ) (rules : List Rule) where
     pub least-is : (s : Set) → length s ≡ n → Closed n rules g s → Sub s (least n rules g) → s ≡ least n rules g
     least-is s e c h = sub-antisym s (least n rules g) (e ∙ sym least-length) h (least-in s c)
 
-    -- A closed set that is in every closed set is it.
-    pub least-only : (s : Set) → length s ≡ n → Closed n rules g s → ((t : Set) → Closed n rules g t → Sub s t) → s ≡ least n rules g
-    least-only s e c h = least-is s e c (h (least n rules g) least-closed)
-
   -- More seeds, more allowed, more not(g): a larger set.
   pub least-mono : (g g′ : Reduct) → Below g g′ → Sub (least n rules g) (least n rules g′)
   least-mono g g′ h =

@@ -12,5 +12,4 @@ pub mod FalsityLaws
 pub mod Rings
 pub mod ByteLaws
 pub mod Support
-pub mod Orders
 pub mod Coherence

@@ -93,10 +93,6 @@ module _ (p : Program) (s : ℕ) where
   unfolding possibleSet
   possible-least t = least-in (judged (p .atoms)) (allRules p) (possibleReduct p s t)
 
-  pub possible-length : (t : Set) → length (possibleSet p s t) ≡ judged (p .atoms)
-  unfolding possibleSet
-  possible-length t = least-length (judged (p .atoms)) (allRules p) (possibleReduct p s t)
-
   pub false-length : (t : Set) → length (falseSet p s t) ≡ judged (p .atoms)
   unfolding falseSet
   false-length t = length-complement (judged (p .atoms)) (possibleSet p s t)
@@ -165,11 +161,6 @@ module _ (p : Program) (s : ℕ) where
       (λ j. known-le (judged (p .atoms)) (interpretationAt p s j) (sized j))
       (λ j. known-grows (judged (p .atoms)) (interpretationAt p s j) (interpretationAt p s (suc j)) (sized j) (sized (suc j)) (increasing j))
 
-  -- All that come after such a one are equal to it.
-  pub stationary-on : (j k : ℕ) → interpretationAt p s (suc j) ≡ interpretationAt p s j → interpretationAt p s (j + k) ≡ interpretationAt p s j
-  unfolding interpretationAt
-  stationary-on j k e = still-on (successor p s) (start p s) j k e
-
   -- ---- the model
 
   -- "j is its round count, at most 2N."
@@ -188,10 +179,6 @@ module _ (p : Program) (s : ℕ) where
   pub model-first : (j : ℕ) → j < rounds p s → interpretationAt p s (suc j) ≡ interpretationAt p s j → ⊥
   unfolding rounds interpretationAt
   model-first j h e = none-before sameInterpretation (successor p s) same-eq same-refl (2 * judged (p .atoms)) (start p s) j h e
-
-  pub model-is : model p s ≡ interpretationAt p s (rounds p s)
-  unfolding model
-  model-is = refl
 
   -- From its round on every interpretation is the model,
   pub model-on : (j : ℕ) → rounds p s ≤ j → interpretationAt p s j ≡ model p s
@@ -220,12 +207,3 @@ module _ (p : Program) (s : ℕ) where
     below : (k : ℕ) → Within (interpretationAt p s k) j
     below zero = start-within j
     below (suc k) = rw (next-is k) (within-trans (successor-mono (interpretationAt p s k) j (below k)) h)
-
-  -- These two tell the round count.
-  pub rounds-is : (j : ℕ) → interpretationAt p s (suc j) ≡ interpretationAt p s j
-      → ((i : ℕ) → i < j → interpretationAt p s (suc i) ≡ interpretationAt p s i → ⊥) → j ≡ rounds p s
-  unfolding model interpretationAt iterate
-  rounds-is j e h = elim (decLt j (rounds p s)) [
-    | yes l ↦ absurd (model-first j l e)
-    | no g ↦ elim (decLt (rounds p s) j) [ yes l ↦ absurd (h (rounds p s) l model-fixed) | no g′ ↦ omega arith ]
-  ]

@@ -1,7 +1,7 @@
 -- Laws of the sets of flags: what is in a set that a test makes, in a complement; inclusion; how many are in; equality.
 -- Assumes nothing.
 use mathlib.Core.Path.{_≡_, refl, sym, ap, _∙_}
-use mathlib.Core.Bool.{Bool, true, false, not, Bool·not-not}
+use mathlib.Core.Bool.{Bool, true, false, not}
 use mathlib.Core.List.{[], _∷_}
 use mathlib.Core.Logic.{_⊎_, inl, inr, ⊎-elim}
 use Prim.Native.Nat.{ℕ, zero, suc, _+_, _≤_, _<_, suc-le-suc}
@@ -123,11 +123,6 @@ pub complement-mono : (n : ℕ) {s t : Set} → Sub s t → Sub (complement n t)
 complement-mono n {s} {t} h = record {
   at = λ o u. let k = complement-in n t o u in complement-of n s o (k .0) (λ v. k .1 (h .at o v));
 }
-
-pub complement-twice : (n : ℕ) (s : Set) → length s ≡ n → complement n (complement n s) ≡ s
-complement-twice n s e =
-    set-ext n (complement n (complement n s)) s (length-complement n (complement n s)) e
-    (λ o h. has-complement n (complement n s) o h ∙ ap not (has-complement n s o h) ∙ Bool·not-not (has s o))
 
 pub full-complement : (n : ℕ) → full n ≡ complement n (empty n)
 full-complement n = set-ext n (full n) (complement n (empty n)) (length-full n) (length-complement n (empty n)) agree where

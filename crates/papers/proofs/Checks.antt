@@ -26,9 +26,6 @@ module _ {A : Type 0} where
   passed zero paper place next e = (refl, e)
   passed (suc n) paper place next e = refused-not e
 
-  pub passing-zero : {n : ℕ} (paper : Paper) (place : ℕ) (next : Outcome A) → n ≡ 0 → passing n paper place next ≡ next
-  passing-zero paper place next e = rw e
-
   pub passing-refuses : (n : ℕ) (paper : Paper) (place : ℕ) (next : Outcome A) → (n ≡ 0 → ⊥)
       → passing n paper place next ≡ refused (refusal n paper place)
   passing-refuses zero paper place next h = absurd (h refl)

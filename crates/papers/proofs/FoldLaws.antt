@@ -7,7 +7,7 @@ use native.Mathlib.Omega.{arith}
 use native.Mathlib.Decide.{decLt}
 use native.Mathlib.Numerals.{add-one}
 use lib.ListN.{length, getD, take, drop, length-append, length-drop, length-map, List·getD-append}
-use lib.Seq.{take-suc, take-append-le, take-append-add, take-append-seam, take-length, take-at, getD-append-add, getD-drop, drop-drop}
+use lib.Seq.{take-suc, take-append-le, take-append-add, take-at, getD-append-add, getD-drop, drop-drop}
 use Rattle.papers.specs.Program.{Rule, Program}
 use Rattle.papers.specs.Outcome.{accepted}
 use Rattle.papers.specs.Field.{number, numbers, sizeOf}
@@ -40,14 +40,6 @@ fold-first p = omega arith
 pub fold-later : (p : Program) (j : ℕ) → foldPlace p (length (p .rules) + j) ≡ integrityPlace p + fieldsLength (take j (p .integrity))
 unfolding foldPlace fieldNumbers
 fold-later p j = rw (← length-map (p .rules) ruleNumbers, take-append-add, fields-append) (omega arith)
-
-pub fold-integrity : (p : Program) → foldPlace p (length (p .rules)) ≡ integrityPlace p
-unfolding foldPlace fieldNumbers
-fold-integrity p = rw (← length-map (p .rules) ruleNumbers, take-append-seam)
-
-pub fold-end : (p : Program) → foldPlace p (length (fieldNumbers p)) ≡ endPlace p
-unfolding foldPlace fieldNumbers
-fold-end p = rw (take-length, fields-append) (omega arith)
 
 pub fold-next : (p : Program) (i : ℕ) → i < length (fieldNumbers p)
     → foldPlace p (i + 1) ≡ foldPlace p i + 3 + 2 * length (getD (fieldNumbers p) i [])
@@ -166,10 +158,6 @@ module _ (bytes : List ℕ) (p : Program) (b : Bytes bytes) (e : readFile bytes 
   pub fold-within : (i : ℕ) → i < length (fieldNumbers p) → foldPlace p (i + 1) ≤ length bytes
   fold-within i h = rw (fold-next p i h) (at-within (fold-field (file-tells bytes p e) b i h))
 
-  pub fold-content : (i : ℕ) → i < length (fieldNumbers p)
-      → numbers (take (2 * length (getD (fieldNumbers p) i [])) (drop (foldPlace p i + 3) bytes)) ≡ getD (fieldNumbers p) i []
-  fold-content i h = at-content (fold-field (file-tells bytes p e) b i h)
-
   -- The abducibles' field stands at place 9.
   pub abducibles-content : numbers (take (2 * length (p .abducibles)) (drop 12 bytes)) ≡ p .abducibles
   abducibles-content =
@@ -189,9 +177,6 @@ module _ (bytes : List ℕ) (p : Program) (b : Bytes bytes) (e : readFile bytes 
   module _ (i : ℕ) (d : Rule) (h : i < length (p .rules)) where
     rule-at : FieldAt (foldPlace p i) bytes (ruleNumbers (getD (p .rules) i d))
     rule-at = rw (rule-numbers p i d h) at (rule-field (file-tells bytes p e) b i h)
-
-    pub rule-size : sizeOf (drop (foldPlace p i) bytes) ≡ 2 + 2 * length ((getD (p .rules) i d) .body)
-    rule-size = at-size rule-at ∙ omega arith
 
     pub rule-head : number (getD bytes (foldPlace p i + 3) 0) (getD bytes (foldPlace p i + 4) 0) ≡ (getD (p .rules) i d) .head
     rule-head = at-head {r = getD (p .rules) i d} rule-at

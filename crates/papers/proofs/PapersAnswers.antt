@@ -11,8 +11,8 @@ use Rattle.papers.specs.declared.PapersRead.the-variants as papers
 use Rattle.papers.specs.Program.{Program, Query}
 use Rattle.papers.specs.Valid.{ValidBody}
 use Rattle.papers.specs.Field.{numbers}
-use Rattle.papers.specs.Outcome.{Outcome, accepted}
-use Rattle.papers.specs.Reading.{readFile, programIn, readSheet, Papers, readPapers}
+use Rattle.papers.specs.Outcome.{accepted}
+use Rattle.papers.specs.Reading.{readFile, programIn, readSheet, readPapers}
 use Rattle.papers.specs.Answers.{contentsOf, fileAnswer, papersAnswer}
 use Rattle.papers.proofs.Checks.{through}
 use Rattle.papers.proofs.NumberLaws.{Bytes}

@@ -1,13 +1,9 @@
 -- The rules of a program by fold number, and where each one's head and body stand in its file.
 -- Assumes nothing.
 use mathlib.Core.Path.{_≡_, ap, _∙_}
-use mathlib.Core.Bool.{cond}
 use mathlib.Core.List.{List, [], _++_, map}
 use Prim.Native.Nat.{ℕ, zero, suc, _+_, _-_, _*_, _≤_, _<_}
 use native.Mathlib.Omega.{arith}
-use native.Mathlib.Decide.{decLt}
-use borrow.Author.Tests.{lt-ltb, le-ltb}
-use lib.Dec.{ltb}
 use lib.ListN.{length, getD, take, drop, length-append, length-map, List·getD-append}
 use lib.Seq.{getD-append-add}
 use Rattle.papers.specs.Program.{Rule, Program, denial, noRule, allRules}
@@ -88,10 +84,6 @@ head-within p v i h = rule-fitting p v i h .headed
 
 -- ---- in the file
 
--- The bytes of a fold's field before its body: of a rule the heading and the head, of an integrity rule the heading.
-abbrev pub bodyOffset : Program → ℕ → ℕ
-bodyOffset p i = cond (ltb i (length (p .rules))) 5 3
-
 -- A body stands as the part of a file from start to stop.
 pub record BodyAt (bytes : List ℕ) (start stop : ℕ) (body : List ℕ) : Type 0 where
   pub is : numbers (take (stop - start) (drop start bytes)) ≡ body
@@ -141,26 +133,6 @@ module _ (bytes : List ℕ) (p : Program) (b : Bytes bytes) (e : readFile bytes 
       } in
       rw (later-is p i g h) here
 
-  pub body-part : (i : ℕ) → i < length (allRules p)
-      → BodyAt bytes (foldPlace p i + bodyOffset p i) (foldPlace p (i + 1)) ((getD (allRules p) i noRule) .body)
-  body-part i h = elim (decLt i (length (p .rules))) [
-    | yes w ↦ rw (lt-ltb i (length (p .rules)) w) (rule-part i w)
-    | no w ↦
-        let g : length (p .rules) ≤ i = omega arith in
-        rw (le-ltb i (length (p .rules)) g) (integrity-part i g h)
-  ]
-
   pub rule-head : (i : ℕ) → i < length (p .rules)
       → number (getD bytes (foldPlace p i + 3) 0) (getD bytes (foldPlace p i + 4) 0) ≡ (getD (allRules p) i noRule) .head
   rule-head i h = rw (rule-is p i h) (folds.rule-head bytes p b e i noRule h)
-
-  -- The head by fold number, of rules and integrity rules alike.
-  pub head-part : (i : ℕ) → i < length (allRules p)
-      → cond (ltb i (length (p .rules))) (number (getD bytes (foldPlace p i + 3) 0) (getD bytes (foldPlace p i + 4) 0)) (2 * p .atoms)
-      ≡ (getD (allRules p) i noRule) .head
-  head-part i h = elim (decLt i (length (p .rules))) [
-    | yes w ↦ rw (lt-ltb i (length (p .rules)) w) (rule-head i w)
-    | no w ↦
-        let g : length (p .rules) ≤ i = omega arith in
-        rw (le-ltb i (length (p .rules)) g, integrity-head p i g h)
-  ]

@@ -13,7 +13,7 @@ use Rattle.papers.specs.Valid.{All, none, each, ValidBody, ValidRule, Va
 use Rattle.papers.specs.Answers.{fieldsLength, endPlace}
 use Rattle.papers.proofs.NumberLaws.{Bytes, length-encoded}
 use Rattle.papers.proofs.Lists.{all-map, all-each}
-use Rattle.papers.proofs.Accepted.{integrity-next, file-tells, accepted-valid, accepted-encoded, sheet-accepted-valid, sheet-accepted-encoded}
+use Rattle.papers.proofs.Accepted.{accepted-valid, accepted-encoded, sheet-accepted-valid, sheet-accepted-encoded}
 
 pub length-field : (tag : ℕ) (content : List ℕ) → length (encodeField tag content) ≡ 3 + length content
 unfolding encodeField
@@ -65,10 +65,6 @@ sheet-bound n query v = rw length-sheet (omega arith)
 -- ---- accepted papers
 
 module _ (bytes : List ℕ) (p : Program) where
-  -- A file ends with the 3 bytes of 7F, whatever its elements are.
-  pub accepted-length : readFile bytes ≡ accepted p → length bytes ≡ endPlace p + 3
-  accepted-length e = let t = file-tells bytes p e in rw (integrity-next t) at (t .end .size)
-
   pub accepted-bound : Bytes bytes → readFile bytes ≡ accepted p → length bytes ≤ 46895
   accepted-bound b e = rw (accepted-encoded bytes p b e) (file-bound p (accepted-valid bytes p e))
 

@@ -3,7 +3,7 @@ ghost use mathlib.Core.Path.{_≡_};
 ghost use Prim.Native.Nat.{_+_, _*_, _≤_, _<_};
 ghost use lib.ListN.{length, take, drop};
 ghost use Rattle.papers.specs.Field.{numbers};
-ghost use Rattle.papers.specs.Reading.{readEdition, readAtoms, readAbducibles, readRun, readEnd, readRules, readSheet};
+ghost use Rattle.papers.specs.Reading.{readEdition, readAtoms, readAbducibles, readRun, readEnd, readRules};
 ghost use Rattle.papers.specs.Answers.{numberAnswer, countAnswer, runAnswer, fileAnswer};
 use fields::content::abducibles_fault;
 use fields::content::body_fault;
@@ -159,6 +159,12 @@ pub(crate) fn unreached() -> FileRead {
     })
 }
 
+fn fields_at(count: usize, place: usize) -> Fields
+    ensures { λ r. ⌜ r ≡ record { count = count; place = place } ⌝ }
+{
+    Fields { count, place }
+}
+
 // The rules, the integrity rules and the end of a file with this many abducibles, whose numbers are
 // the part of the file from place 12 on.
 pub(crate) fn read_rules(file: &[u8], atoms: u16, abducibles: usize) -> FileRead
@@ -195,14 +201,8 @@ pub(crate) fn read_rules(file: &[u8], atoms: u16, abducibles: usize) -> FileRead
     FileRead::Accepted(Contents {
         atoms,
         abducibles,
-        rules: Fields {
-            count,
-            place: first,
-        },
-        integrity: Fields {
-            count: more,
-            place: next,
-        },
+        rules: fields_at(count, first),
+        integrity: fields_at(more, next),
         end: last,
     })
 }

@@ -3,8 +3,7 @@
 mod file;
 
 ghost use mathlib.Core.Path.{_≡_};
-ghost use Prim.Native.Nat.{ℕ, _+_, _≤_};
-ghost use lib.ListN.{length, drop};
+ghost use lib.ListN.{drop};
 ghost use Rattle.papers.specs.Reading.{readFile, readSheet, readPapers};
 ghost use Rattle.papers.specs.Answers.{countAnswer, fileAnswer, papersAnswer, restOf};
 use fields::content::literals_fault;

@@ -40,10 +40,6 @@ unfolding computing
 allowed-accepted = refl
 
 -- In scenario 1, a is assumed.
-pub contradiction-model : modelBytes contradiction 1 ≡ 1 ∷ 2 ∷ 3 ∷ 3 ∷ 3 ∷ []
-unfolding computing
-contradiction-model = refl
-
 pub contradiction-falsum : getD (modelBytes contradiction 1) 4 0 ≡ 3
 unfolding computing
 contradiction-falsum = refl
@@ -51,10 +47,6 @@ contradiction-falsum = refl
 pub contradiction-none : explains contradiction queryD 1 ≡ false
 unfolding computing
 contradiction-none = refl
-
-pub allowed-model : modelBytes contradictionAllowed 1 ≡ 1 ∷ 2 ∷ 3 ∷ 3 ∷ 2 ∷ []
-unfolding computing
-allowed-model = refl
 
 pub allowed-d : getD (modelBytes contradictionAllowed 1) 2 0 ≡ 3
 unfolding computing

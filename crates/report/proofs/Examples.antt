@@ -1,9 +1,8 @@
 -- Document 01's own lines, computed. Assumes nothing.
 use mathlib.Core.Path.{_≡_, refl}
-use mathlib.Core.List.{List, [], _∷_}
-use Prim.Native.Nat.{ℕ}
+use mathlib.Core.List.{[], _∷_}
 use Rattle.papers.specs.declared.Paper.the-variants.{Sheet}
-use Rattle.report.specs.declared.State.the-variants.{Ended}
+use Rattle.search.specs.declared.State.the-variants.{Ended}
 use Rattle.report.specs.Decimal.{digits, decimal}
 use Rattle.report.specs.Text.{spaced, line}
 use Rattle.report.specs.Lines.{stateWord, paperWord, sign, assumption, assumptions, headingLine, foundLine, lastLine, refusedLine}

@@ -1,5 +1,5 @@
 -- How long the lines are at most. Assumes nothing.
-use mathlib.Core.Path.{_≡_, ap, _∙_}
+use mathlib.Core.Path.{ap, _∙_}
 use mathlib.Core.List.{List, [], _∷_, _++_}
 use Prim.Native.Nat.{ℕ, _+_, _*_, _/_, _%_, _^_, _≤_, _<_}
 use native.Mathlib.Omega.{arith}
@@ -7,14 +7,9 @@ use native.Mathlib.Decide.{ℕ-discrete}
 use lib.ListN.{length, length-append}
 use Rattle.papers.specs.Valid.{All}
 use Rattle.papers.specs.Valid.{All.none as nothing, All.each as each}
-use Rattle.papers.specs.declared.Refusal.{Refusal}
-use Rattle.papers.specs.declared.Paper.the-variants.{File, Sheet}
-use Rattle.papers.specs.declared.Paper.{Paper}
-use Rattle.report.specs.declared.State.{State}
-use Rattle.report.specs.declared.State.the-variants.{Going, Full, Ended}
 use Rattle.report.specs.Decimal.{decimal}
 use Rattle.report.specs.Text.{spaced, line}
-use Rattle.report.specs.Lines.{foundWord, stateWord, paperWord, sign, assumption, assumptions, headingLine, foundLine, lastLine, refusedLine}
+use Rattle.report.specs.Lines.{sign, assumption, assumptions, foundLine}
 use Rattle.report.proofs.DecimalLaws.{decimal-length}
 use Rattle.report.proofs.Putting.{spaced-append}
 use Rattle.report.proofs.Items.{item-open, item-signed}

@@ -15,16 +15,10 @@ ghost use Rattle.report.specs.Lines.{sign as signOf};
 use fields::field::number_at;
 use papers::Paper;
 use papers::Refusal;
+use search::State;
 use text::put_byte;
 use text::put_number;
 use text::put_text;
-
-// How a search stands after a call.
-pub enum State {
-    Going,
-    Full,
-    Ended,
-}
 
 // `atoms 2 abducibles 1 scenarios 3`
 pub fn write_heading(

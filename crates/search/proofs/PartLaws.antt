@@ -62,9 +62,6 @@ part-le (suc k) a b l h =
 pub part-lt : (k a s : ℕ) → a < 3 ^ k → T (partOf k a s) → (a ≡ s → ⊥) → a < s
 part-lt k a s l h n = let le = part-le k a s l h in omega arith
 
-pub part-antisym : (k a b : ℕ) → a < 3 ^ k → b < 3 ^ k → T (partOf k a b) → T (partOf k b a) → a ≡ b
-part-antisym k a b la lb h g = let ab = part-le k a b la h in let ba = part-le k b a lb g in omega arith
-
 -- ---- the reading
 
 -- "Digit i of s in base 3, lowest first."

@@ -81,30 +81,9 @@ module _ (P : Problem) (p f : ℕ) (l : List ℕ) where
     unfolding step
     step-writes e = rw (e, step)
 
-    -- ---- the step by its case
-
     -- At the end it stands still.
     pub step-end : p ≡ scenarios P → step P (work p f l t r) ≡ work p f l t r
     step-end e = step-stands (move-end e)
-
-    module _ (inside : p ≡ scenarios P → ⊥) where
-      -- No explanation: tried.
-      pub step-dull : P .explains p ≡ false → step P (work p f l t r) ≡ work (p + 1) f l (t + 1) (r + P .rounds p)
-      step-dull e = step-tries (move-tries inside (new-not e))
-
-      module _ (explains : P .explains p ≡ true) where
-        -- An explanation containing a listed entry's assumptions: tried.
-        pub step-listed : containsOne (P .abducibles) (take f l) p ≡ true → step P (work p f l t r) ≡ work (p + 1) f l (t + 1) (r + P .rounds p)
-        step-listed h = step-tries (move-tries inside (new-listed explains h))
-
-        module _ (new : containsOne (P .abducibles) (take f l) p ≡ false) where
-          -- New, and there is room: tried and written.
-          pub step-new : f < length l → step P (work p f l t r) ≡ work (p + 1) (f + 1) (set l f p) (t + 1) (r + P .rounds p)
-          step-new h = step-writes (move-writes inside (new-yes explains new) h)
-
-          -- New, and the list is full: it stands still.
-          pub step-full : length l ≤ f → step P (work p f l t r) ≡ work p f l t r
-          step-full h = step-stands (move-full inside (new-yes explains new) h)
 
 -- ---- of any step
 

@@ -84,9 +84,6 @@ write-found-lines-requires c κs =
     let l = length-take (12 + 2 * a .contents .abducibles - 12) (drop 12 (now (a .file))) in
     (c .before .before .before .before .before .before .write-heading .ensures .1, (few, (omega arith, omega arith)))
 
-state-of-requires : tie.Need-state-of-requires
-state-of-requires c κs = search needs
-
 write-last-requires : tie.Need-write-last-requires
 write-last-requires c κs = search needs
 
@@ -101,19 +98,19 @@ same-length-3 c = search needs
 
 returns : tie.Need-returns
 returns c =
-    let start = c .before .before .before .before .before .before .before .before .before .before .before .before .before .before .before .before .before .before .before .before .before .before .before .before .before .before .before .before .before .before .before in
+    let start = c .before .before .before .before .before .before .before .before .before .before .before .before .before .before .before .before .before .before .before .before .before .before .before .before .before .before .before .before .before .before in
     let file = now (start .args .file) in
     let sheet = now (start .args .sheet) in
     let k = start .pre .0 in
-    let searched = c .before .before .before .before .before .before .before .before .before .before .before .before .before .before .before .before .before .before .before .before .before .before .search-all in
-    let heading = c .before .before .before .before .before .before .before .before .before .before .before .before .before .before .write-heading in
-    let found = c .before .before .before .before .before .before .before .write-found-lines in
+    let searched = c .before .before .before .before .before .before .before .before .before .before .before .before .before .before .before .before .before .before .before .before .before .search-all in
+    let heading = c .before .before .before .before .before .before .before .before .before .before .before .before .before .write-heading in
+    let found = c .before .before .before .before .before .before .write-found-lines in
     let last = c .before .before .write-last in
-    let there = listed-there file sheet (k .is) (k .told) (λ i. c .before .before .before .before .before .before .before .before .before .before .before .before .before .before .before .before .before .before .before .before .before .before .before .before .before .before .before .before .before .before .shared-slice-known .given i .fits) in
+    let there = listed-there file sheet (k .is) (k .told) (λ i. c .before .before .before .before .before .before .before .before .before .before .before .before .before .before .before .before .before .before .before .before .before .before .before .before .before .before .before .before .before .shared-slice-known .given i .fits) in
     let text =
-    text-put (k .is) (searched .ensures .0) (searched .ensures .1) (atoms-told file sheet (k .is) (k .told)) (listed-are file sheet (k .is) (k .told)) (sym (c .before .before .before .before .before .before .before .before .before .before .before .before .before .before .before .before .before .before .before .before .before .before .before .before .before .scenario-count .ensures)) there (sym (c .before .before .before .state-of .ensures))
+    text-put (k .is) (searched .ensures .0) (searched .ensures .1) (atoms-told file sheet (k .is) (k .told)) (listed-are file sheet (k .is) (k .told)) (sym (c .before .before .before .before .before .before .before .before .before .before .before .before .before .before .before .before .before .before .before .before .before .before .before .before .scenario-count .ensures)) there
     (heading .ensures .0) (found .ensures .0) (last .ensures .0) in
-    let lines = lines-long (c .before .before .before .before .before .before .before .before .before .before .before .before .before .before .before .before .before .before .before .before .before .before) in
+    let lines = lines-long (c .before .before .before .before .before .before .before .before .before .before .before .before .before .before .before .before .before .before .before .before .before) in
     let size = searched .kept .1 .1 .1 .0 in
     let most = start .pre .1 .1 in
     let p = found .ensures .0 .place in
@@ -137,7 +134,6 @@ write-accepted-spec =
     part-write-found-lines-start
     part-write-found-lines-end
     write-found-lines-requires
-    state-of-requires
     write-last-requires
     same-length
     same-length-2

@@ -1,6 +1,5 @@
 -- `judging::values::value_byte` meets its contract.
 -- Assumes nothing.
-use borrow.Author.Needs.{needs}
 use Rattle.model.specs.Model.{valueByte}
 use Rattle.judging.proofs.values.value_byte.Statement.{statement}
 use Rattle.judging.proofs.values.value_byte.Tie as tie

@@ -5,7 +5,6 @@ use Prim.Native.Nat.{_-_, _≤_}
 use mathlib.Core.Path.{_≡_, subst}
 use native.Mathlib.Omega.{arith}
 use denote.Ref.{now}
-use lib.ListN.{length}
 use Rattle.judging.proofs.ValueLaws.{Valued, valued-none, valued-more, valued-all}
 use Rattle.judging.proofs.values.write_values.Statement.{statement}
 use Rattle.judging.proofs.values.write_values.Tie as tie

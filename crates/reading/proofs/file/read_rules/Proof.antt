@@ -120,8 +120,22 @@ returns-5 c = search needs
 returns-6 : tie.Need-returns-6
 returns-6 c = let a = c .before .before .before .before .before .before .before .before .before .before .before .before .before .before .before .before .before .args in end-refused (a .atoms) (a .abducibles) (now (a .file)) (c .before .before .before .before .before .before .before .before .before .before .before .before .before .before .before .before .before .pre) (rules-ran (c .before .before .before .before .before .before .before .before .before .before .before)) (integrity-ran (c .before .before .before .before .before .before .before)) (number-refused _ (c .before .before .before .before .before .before .read-end .ensures) (c .before .before .before .before .end .given .1 ∙ c .before .end2 .given .1))
 
+fields-at-requires : tie.Need-fields-at-requires
+fields-at-requires c κs = search needs
+
+fields-at-requires-2 : tie.Need-fields-at-requires-2
+fields-at-requires-2 c κs = search needs
+
 returns-7 : tie.Need-returns-7
-returns-7 c = let a = c .before .before .before .before .before .before .before .before .before .before .before .before .before .args in all-accepted (a .atoms) (a .abducibles) (now (a .file)) (c .before .before .before .before .before .before .before .before .before .before .before .before .before .pre) (rules-ran (c .before .before .before .before .before .before .before)) (integrity-ran (c .before .before .before)) (number-accepted _ (c .before .before .read-end .ensures) (c .enum-told3 .given .1))
+returns-7 c =
+    let read = c .before .before in
+    let integrity = read .before .before .before in
+    let rules = integrity .before .before .before .before in
+    let start = rules .before .before .before .before .before .before in
+    let a = start .args in
+    rw (c .before .fields-at .ensures, c .fields-at2 .ensures)
+    (all-accepted (a .atoms) (a .abducibles) (now (a .file)) (start .pre) (rules-ran rules) (integrity-ran integrity)
+    (number-accepted _ (read .before .before .read-end .ensures) (read .enum-told3 .given .1)))
 
 pub read-rules-spec : {M : Type 1} → statement M
 read-rules-spec =
@@ -156,4 +170,6 @@ read-rules-spec =
     unreached-requires-3
     returns-5
     returns-6
+    fields-at-requires
+    fields-at-requires-2
     returns-7)
