@@ -5,27 +5,17 @@ use mathlib.Core.Bool.{false}
 use mathlib.Core.List.{List}
 use Prim.Native.Nat.{ℕ}
 use native.Mathlib.Omega.{arith}
-use Rattle.search.specs.declared.State.{State}
-use Rattle.search.specs.declared.Report.{Report as Told}
 use Rattle.search.specs.declared.stepping.Progress.{Progress}
 use Rattle.search.specs.Scenarios.{Problem, scenarios}
-use Rattle.search.specs.Continuing.{Record, Work, steps, stateBy, begun, reportOf, continue}
+use Rattle.search.specs.Continuing.{Record, Work, steps, begun, reportOf, continue}
 use Rattle.search.specs.Spoilt.{spoiltBy}
 use Rattle.search.specs.Stepping.{workOf, Kept}
-use Rattle.search.specs.Searching.{toldReport}
+use Rattle.search.specs.Searching.{toldReport, reportBy}
 use Rattle.search.proofs.Sound.{unspoilt-bounded}
 
 -- Nothing tried yet.
 abbrev pub untried : Record → Progress
 untried from = record { position = from .position; found = from .found; tried = 0; rounds = 0 }
-
-abbrev pub told : Progress → State → Told
-told s state = record {
-  new = record { position = s .position; found = s .found };
-  tried = s .tried;
-  rounds = s .rounds;
-  state = state;
-}
 
 module _ (P : Problem) {total : ℕ} (all : total ≡ scenarios P) (from : Record) (list : List ℕ) where
   pub unspoilt-kept : spoiltBy total from list ≡ false → Kept total (untried from) list
@@ -34,11 +24,9 @@ module _ (P : Problem) {total : ℕ} (all : total ≡ scenarios P) (from : Recor
       record { within = omega arith; held = b .held; few = b .few; cost = omega arith }
 
   module _ (w : ℕ) {s : Progress} {left : List ℕ} (ran : steps P w (begun from list) ≡ workOf s left) where
-    pub call-told : {state : State} → state ≡ stateBy total w (s .position) (s .tried) → told s state ≡ toldReport (continue P w from list)
+    pub call-told : reportBy total w s ≡ toldReport (continue P w from list)
     unfolding continue
-    call-told {state} e =
-        ap (told s) (e ∙ ap (λ (n : ℕ). stateBy n w (s .position) (s .tried)) all)
-        ∙ sym (ap (λ (x : Work). toldReport (reportOf P w x)) ran)
+    call-told = ap (λ (n : ℕ). reportBy n w s) all ∙ sym (ap (λ (x : Work). toldReport (reportOf P w x)) ran)
 
     pub call-list : left ≡ continue P w from list .list
     unfolding continue

@@ -18,7 +18,7 @@ use Rattle.search.specs.declared.Continued.{Continued}
 use Rattle.search.specs.declared.Continued.the-variants.{Reported, ShortDual, SpoiltSearch, Refused}
 use Rattle.search.specs.declared.stepping.Progress.{Progress}
 use Rattle.search.specs.Scenarios.{Problem}
-use Rattle.search.specs.Continuing.{Record, Report}
+use Rattle.search.specs.Continuing.{Record, Report, stateBy}
 use Rattle.search.specs.Spoilt.{spoiltBy}
 use Rattle.search.specs.Calls.{Call, Answer, refusal, report, answer, listAfter}
 use Rattle.search.specs.Stepping.{Kept}
@@ -87,6 +87,15 @@ continuedNumber (Refused r) = r .number
 -- The problem of an accepted file and the bytes of a query.
 abbrev pub problemIn : List ℕ → List ℕ → Problem
 problemIn file query = problemOf (record { program = programIn file; query = numbers query })
+
+-- What is told of a call that has come so far.
+abbrev pub reportBy : ℕ → ℕ → Progress → Told
+reportBy total w s = record {
+  new = record { position = s .position; found = s .found };
+  tried = s .tried;
+  rounds = s .rounds;
+  state = stateBy total w (s .position) (s .tried);
+}
 
 -- Papers that can be judged, a search within its bounds, and room to count `count` scenarios more.
 pub record Ready (file : List ℕ) (contents : Contents) (places dual query : List ℕ) (total count : ℕ) (before : Progress) (list : List ℕ)

@@ -6,11 +6,14 @@ mod stepping;
 
 ghost use mathlib.Core.Path.{_≡_};
 ghost use lib.ListN.{length};
+ghost use Rattle.papers.specs.declared.PapersRead.{PapersRead};
 ghost use Rattle.papers.specs.Reading.{readPapers};
+ghost use Rattle.papers.specs.Answers.{papersAnswer};
 ghost use Rattle.search.specs.Continuing.{fresh};
 ghost use Rattle.search.specs.Searching.{continueAnswer, dualContinued, listContinued};
 use dual::DualWritten;
 use lanes::digits::scenario_count;
+use papers::Contents;
 use papers::PapersRead;
 use papers::Refusal;
 use searching::search_accepted;
@@ -54,23 +57,20 @@ pub fn fresh() -> Record
     }
 }
 
-pub fn continue_search(
+// Both papers are accepted, the query with so many literals.
+fn continue_accepted(
     file: &[u8],
     sheet: &[u8],
+    contents: Contents,
+    literals: usize,
     dual: &mut [u8],
     list: &mut [u32],
     from: Record,
     allowance: u32,
 ) -> Continued
+    requires { ⌜ papersAnswer (readPapers (now file) (now sheet)) ≡ PapersRead.Accepted contents literals ⌝ }
     ensures { λ r. ⌜ (r ≡ continueAnswer (readPapers (now (file .entry)) (now (sheet .entry))) allowance (length (now (dual .entry))) from (now (list .entry))) × ((now (dual .exit) ≡ dualContinued (readPapers (now (file .entry)) (now (sheet .entry))) allowance (now (dual .entry)) from (now (list .entry))) × (now (list .exit) ≡ listContinued (readPapers (now (file .entry)) (now (sheet .entry))) allowance (length (now (dual .entry))) from (now (list .entry)))) ⌝ }
 {
-    let read = reading::read_papers(file, sheet);
-    let PapersRead::Accepted(contents, literals) = read else {
-        let PapersRead::Refused(refusal) = read else {
-            return Continued::SpoiltSearch;
-        };
-        return Continued::Refused(refusal);
-    };
     let total = scenario_count(contents.abducibles);
     let spoilt = is_spoilt(list, from.position, from.found, total);
     let places = folds::fold_places(file, contents);
@@ -94,4 +94,24 @@ pub fn continue_search(
         allowance,
     );
     Continued::Reported(report)
+}
+
+pub fn continue_search(
+    file: &[u8],
+    sheet: &[u8],
+    dual: &mut [u8],
+    list: &mut [u32],
+    from: Record,
+    allowance: u32,
+) -> Continued
+    ensures { λ r. ⌜ (r ≡ continueAnswer (readPapers (now (file .entry)) (now (sheet .entry))) allowance (length (now (dual .entry))) from (now (list .entry))) × ((now (dual .exit) ≡ dualContinued (readPapers (now (file .entry)) (now (sheet .entry))) allowance (now (dual .entry)) from (now (list .entry))) × (now (list .exit) ≡ listContinued (readPapers (now (file .entry)) (now (sheet .entry))) allowance (length (now (dual .entry))) from (now (list .entry)))) ⌝ }
+{
+    let read = reading::read_papers(file, sheet);
+    let PapersRead::Accepted(contents, literals) = read else {
+        let PapersRead::Refused(refusal) = read else {
+            return Continued::SpoiltSearch;
+        };
+        return Continued::Refused(refusal);
+    };
+    continue_accepted(file, sheet, contents, literals, dual, list, from, allowance)
 }

@@ -3,7 +3,7 @@ ghost use mathlib.Core.Path.{_≡_};
 ghost use Prim.Native.Nat.{_≤_};
 ghost use Rattle.search.specs.Continuing.{stateBy, continue};
 ghost use Rattle.search.specs.Stepping.{Batch, Tried};
-ghost use Rattle.search.specs.Searching.{problemIn, toldReport, Ready, Passed};
+ghost use Rattle.search.specs.Searching.{problemIn, toldReport, reportBy, Ready, Passed};
 use crate::Record;
 use crate::Report;
 use crate::State;
@@ -111,6 +111,22 @@ fn state_of(total: u32, allowance: u32, position: u32, tried: u32) -> State
     State::Going
 }
 
+// What a call reports that came so far.
+fn report_of(total: u32, allowance: u32, reached: Progress) -> Report
+    ensures { λ r. ⌜ r ≡ reportBy total allowance reached ⌝ }
+{
+    let state = state_of(total, allowance, reached.position, reached.tried);
+    Report {
+        new: Record {
+            position: reached.position,
+            found: reached.found,
+        },
+        tried: reached.tried,
+        rounds: reached.rounds,
+        state: state,
+    }
+}
+
 // A call on a record and a list that pass test 14.
 pub(crate) fn search_accepted(
     file: &[u8],
@@ -143,14 +159,5 @@ pub(crate) fn search_accepted(
         allowance,
         before,
     );
-    let state = state_of(total, allowance, reached.position, reached.tried);
-    Report {
-        new: Record {
-            position: reached.position,
-            found: reached.found,
-        },
-        tried: reached.tried,
-        rounds: reached.rounds,
-        state: state,
-    }
+    report_of(total, allowance, reached)
 }

@@ -1,6 +1,6 @@
 -- `search::searching::search_accepted` meets its contract.
 -- Assumes nothing.
-use mathlib.Core.Path.{refl}
+use mathlib.Core.Path.{refl, _∙_}
 use native.Mathlib.Omega.{arith}
 use borrow.Author.Needs.{needs}
 use denote.Ref.{now}
@@ -23,18 +23,20 @@ try-all-requires c κs =
       refl,
     )
 
-state-of-requires : tie.Need-state-of-requires
-state-of-requires c κs = search needs
+report-of-requires : tie.Need-report-of-requires
+report-of-requires c κs = search needs
 
 same-length : tie.Need-same-length
 same-length c = search needs
 
 returns : tie.Need-returns
 returns c =
-    let a = c .before .before .before .before .before .before .before .before .before .args in
+    let tried = c .before .before .before in
+    let start = tried .before .before .before .before .before .before in
+    let a = start .args in
     let P = problemIn (now (a .file)) (now (a .query)) in
-    let ran = c .before .before .before .try-all .ensures .is in
-    (call-told P (c .before .before .before .before .before .before .before .before .before .pre .scenarios) (a .from) (now (a .list)) (a .allowance) ran (c .state-of .ensures), call-list P (c .before .before .before .before .before .before .before .before .before .pre .scenarios) (a .from) (now (a .list)) (a .allowance) ran)
+    let ran = tried .try-all .ensures .is in
+    (c .report-of .ensures ∙ call-told P (start .pre .scenarios) (a .from) (now (a .list)) (a .allowance) ran, call-list P (start .pre .scenarios) (a .from) (now (a .list)) (a .allowance) ran)
 
 pub search-accepted-spec : {M : Type 1} → statement M
-search-accepted-spec = tie.close (tie.spec try-all-requires state-of-requires same-length returns)
+search-accepted-spec = tie.close (tie.spec try-all-requires report-of-requires same-length returns)

@@ -1,0 +1,14 @@
+-- `search::searching::report_of` meets its contract.
+-- Assumes nothing.
+use borrow.Author.Needs.{needs}
+use Rattle.search.proofs.searching.report_of.Statement.{statement}
+use Rattle.search.proofs.searching.report_of.Tie as tie
+
+state-of-requires : tie.Need-state-of-requires
+state-of-requires c κs = search needs
+
+returns : tie.Need-returns
+returns c = rw (c .state-of .ensures)
+
+pub report-of-spec : {M : Type 1} → statement M
+report-of-spec = tie.close (tie.spec state-of-requires returns)
