@@ -5,7 +5,7 @@ use mathlib.Core.Bool.{Bool, true, false, cond}
 use mathlib.Core.List.{List, [], _∷_, map}
 use Prim.Native.Nat.{ℕ, _*_}
 use Rattle.papers.specs.declared.Refusal.{Refusal}
-use Rattle.papers.specs.Outcome.{accepted, refused}
+use Rattle.papers.specs.Outcome.{Outcome, accepted, refused}
 use Rattle.papers.specs.Reading.{Papers, readPapers}
 use Rattle.dual.specs.Answers.{dualOf, filled}
 use Rattle.model.proofs.Rounds.{rounds-le}
@@ -16,7 +16,7 @@ use Rattle.search.specs.Calls.{Call, Answer, refusal, report, answer, re
 use Rattle.search.specs.Demand.{isRefused, isRefusal, Demand}
 use Rattle.search.specs.Searching.{problemOf, continuedBy, bufferBy, continuedNumber, recordContinued}
 use Rattle.search.specs.SearchCalls.{Lent, made, firstMade, searchCalls, refusedMade, callFor, answered, answerFor, calledBy}
-use Rattle.search.specs.SearchCalls.{numberOf, dualLeft, numberFor, dualFor, SearchDemand}
+use Rattle.search.specs.SearchCalls.{numberOf, dualLeft, numberFor, dualFor, SearchDemand, SearchClaim}
 use Rattle.search.proofs.Pause.{pause}
 
 -- ---- one call
@@ -84,9 +84,8 @@ module _ (file sheet : List ℕ) (q : Papers) (read : readPapers file sheet ≡ 
       let more = calls-tell cs (recordContinued from (m .answer)) (m .list) tail in
       (ap₂ _∷_ (rw read (number-back k a own)) (more .0), ap₂ _∷_ (rw read (dual-back k a (dualOf (q .program)) (c .dual) own)) (more .1))
 
-  -- Demand 3.
-  pub search-pause : (l : List ℕ) (cs : List Lent) → SearchDemand q l cs (searchCalls file sheet cs fresh l)
-  search-pause l cs =
+  pub pause-accepted : (l : List ℕ) (cs : List Lent) → SearchDemand q l cs (searchCalls file sheet cs fresh l)
+  pause-accepted l cs =
       let s = searchCalls file sheet cs fresh l in
       let d = subst (Demand (problemOf q) l (map (callFor q) cs)) (sym (calls-are cs fresh l)) (pause (problemOf q) l (map (callFor q) cs)) in
       let t = calls-tell cs fresh l (d .refused) in
@@ -99,8 +98,17 @@ module _ (file sheet : List ℕ) (q : Papers) (read : readPapers file sheet ≡ 
       }
 
 -- Over papers that are refused, each call answers so and leaves all as it was.
-pub search-refused : (file sheet : List ℕ) (r : Refusal) → readPapers file sheet ≡ refused r → (cs : List Lent) (from : Record) (list : List ℕ)
+pub pause-refused : (file sheet : List ℕ) (r : Refusal) → readPapers file sheet ≡ refused r → (cs : List Lent) (from : Record) (list : List ℕ)
     → searchCalls file sheet cs from list ≡ record { last = from; list = list; each = map (refusedMade r list) cs }
 unfolding searchCalls refusedMade
-search-refused file sheet r read [] from list = refl
-search-refused file sheet r read (c ∷ cs) from list = rw read (ap (firstMade (refusedMade r list c)) (search-refused file sheet r read cs from list))
+pause-refused file sheet r read [] from list = refl
+pause-refused file sheet r read (c ∷ cs) from list = rw read (ap (firstMade (refusedMade r list c)) (pause-refused file sheet r read cs from list))
+
+-- Demand 3, of every file and sheet, every lent list and every list of calls from the fresh search on.
+pub search-pause : (file sheet l : List ℕ) (cs : List Lent) → SearchClaim (readPapers file sheet) l cs (searchCalls file sheet cs fresh l)
+unfolding SearchClaim
+search-pause file sheet l cs = go (readPapers file sheet) refl
+  where
+    go : (o : Outcome Papers) → readPapers file sheet ≡ o → SearchClaim o l cs (searchCalls file sheet cs fresh l)
+    go (accepted q) e = pause-accepted file sheet q e l cs
+    go (refused r) e = pause-refused file sheet r e cs fresh l

@@ -6,11 +6,12 @@ use Prim.Native.Nat.{ℕ, _*_, _≤_}
 use lib.ListN.{length}
 use Rattle.literals.specs.Numbering.{judged}
 use Rattle.papers.specs.declared.Refusal.{Refusal}
+use Rattle.papers.specs.Outcome.{Outcome, accepted, refused}
 use Rattle.papers.specs.Reading.{Papers, readPapers}
 use Rattle.dual.specs.Answers.{dualOf, filled}
 use Rattle.search.specs.declared.Continued.{Continued}
 use Rattle.search.specs.declared.Continued.the-variants.{Reported, ShortDual, SpoiltSearch, Refused}
-use Rattle.search.specs.Continuing.{Record}
+use Rattle.search.specs.Continuing.{Record, fresh}
 use Rattle.search.specs.Calls.{Call, Answer, refusal, report, Called, roundsBy}
 use Rattle.search.specs.Demand.{Demand}
 use Rattle.search.specs.Searching.{problemOf, callOf, continueAnswer, dualContinued, listContinued, recordContinued, continuedNumber}
@@ -99,3 +100,8 @@ pub record SearchDemand (q : Papers) (l : List ℕ) (cs : List Lent) (s : Search
   -- A call is refused exactly where its own dual buffer is too short, and by 11.
   pub numbers : map numberOf (s .each) ≡ map (numberFor q) cs
   pub duals : map dualLeft (s .each) ≡ map (dualFor q) cs
+
+-- Demand 3, whatever the papers are. Of refused ones each call answers their refusal, and all that is lent stays as it was.
+unfoldable pub SearchClaim : Outcome Papers → List ℕ → List Lent → Searched → Type 0
+SearchClaim (accepted q) l cs s = SearchDemand q l cs s
+SearchClaim (refused r) l cs s = s ≡ record { last = fresh; list = l; each = map (refusedMade r l) cs }
