@@ -1,5 +1,12 @@
 //! A call: the rules, the symptoms asked about, and their two papers.
 
+pub const MOST_ATOMS: usize = 256;
+pub const MOST_FAULTS: usize = 16;
+pub const MOST_RULES: usize = 1_024;
+pub const MOST_INTEGRITY_RULES: usize = 256;
+/// Of a body or a query.
+pub const MOST_LITERALS: usize = 16;
+
 /// An atom or its explicit negation.
 #[derive(Clone, Copy, Debug, PartialEq, Eq)]
 pub struct Objective {

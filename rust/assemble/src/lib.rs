@@ -2,7 +2,7 @@
 //! `examples/README.md` describes.
 //!
 //! * [`tokens`] takes the text apart;
-//! * [`mod@parse`] makes a call of it;
+//! * [`mod@parse`] makes a call of it, or tells the [`mistake`] in it;
 //! * [`call`] is a call, and writes its papers.
 //!
 //! Nothing here comes from a finder.
@@ -10,8 +10,10 @@
 #![forbid(unsafe_code)]
 
 pub mod call;
+pub mod mistake;
 pub mod parse;
 pub mod tokens;
 
 pub use call::{Call, Literal, Objective, Rule};
-pub use parse::{parse, Mistake};
+pub use mistake::Mistake;
+pub use parse::parse;

@@ -1,35 +1,16 @@
 //! Reading a text.
 
-use std::{fmt, vec};
+use std::vec;
 
-use crate::call::{Call, Literal, Objective, Rule};
+use crate::call::{
+    Call, Literal, Objective, Rule, MOST_ATOMS, MOST_FAULTS, MOST_INTEGRITY_RULES, MOST_LITERALS,
+    MOST_RULES,
+};
+use crate::mistake::Mistake;
 use crate::tokens::{tokens, Token};
-
-const MOST_ATOMS: usize = 256;
-const MOST_FAULTS: usize = 16;
-const MOST_RULES: usize = 1_024;
-const MOST_INTEGRITY_RULES: usize = 256;
-/// Of a body or a query.
-const MOST_LITERALS: usize = 16;
 
 /// Words that are no names.
 const KEPT: [&str; 5] = ["faults", "atoms", "query", "falsum", "not"];
-
-/// Why a text can't be read.
-#[derive(Clone, Debug, PartialEq, Eq)]
-pub struct Mistake {
-    /// Counted from 1.
-    pub line: usize,
-    pub what: String,
-}
-
-impl fmt::Display for Mistake {
-    fn fmt(&self, f: &mut fmt::Formatter) -> fmt::Result {
-        write!(f, "line {}: {}", self.line, self.what)
-    }
-}
-
-impl std::error::Error for Mistake {}
 
 /// Reads a text. Its atoms are numbered in the order in which it names them
 /// under `faults` and `atoms`.
@@ -217,22 +198,6 @@ fn name<'t>(token: Token<'t>) -> Result<&'t str, Mistake> {
         Ok(token.text)
     } else {
         Err(token.unexpected("a name"))
-    }
-}
-
-impl Token<'_> {
-    fn unexpected(&self, expected: &str) -> Mistake {
-        self.mistake(format!("{expected} should stand here, not `{}`", self.text))
-    }
-
-    /// Refuses what begins with this token where as many come before it as
-    /// there may be.
-    fn room(&self, before: usize, most: usize, what: &str) -> Result<(), Mistake> {
-        if before < most {
-            Ok(())
-        } else {
-            Err(self.mistake(format!("more than {most} {what}")))
-        }
     }
 }
 

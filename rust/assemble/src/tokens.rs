@@ -1,6 +1,6 @@
 //! The words and signs of a text.
 
-use crate::parse::Mistake;
+use crate::mistake::Mistake;
 
 /// A sign that begins another comes after it.
 const SIGNS: [&str; 5] = [":-", ":", ",", ".", "-"];
@@ -24,6 +24,20 @@ impl Token<'_> {
         Mistake {
             line: self.line,
             what: what.into(),
+        }
+    }
+
+    pub fn unexpected(&self, expected: &str) -> Mistake {
+        self.mistake(format!("{expected} should stand here, not `{}`", self.text))
+    }
+
+    /// Refuses what begins with this token where as many come before it as
+    /// there may be.
+    pub fn room(&self, before: usize, most: usize, what: &str) -> Result<(), Mistake> {
+        if before < most {
+            Ok(())
+        } else {
+            Err(self.mistake(format!("more than {most} {what}")))
         }
     }
 }

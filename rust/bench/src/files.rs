@@ -6,11 +6,12 @@
 //! negation of an effect, and integrity rules bar causes that exclude each
 //! other. All of it comes from a seed.
 
-use compare::random::Random;
+use compare::programs::{fails, holds};
 use plain::{
     encode_file, encode_sheet, scenario_count, Atom, Literal, ObjectiveLiteral, Program, Query,
     Rule,
 };
+use random::Random;
 
 /// What a file is made from.
 #[derive(Clone, Copy)]
@@ -99,7 +100,7 @@ fn program(shape: &Shape) -> Program {
     while rules.len() < shape.rules {
         rules.push(rule(&mut random, shape));
     }
-    shuffle(&mut random, &mut rules);
+    random.shuffle(&mut rules);
     Program {
         atoms: shape.causes + shape.effects,
         abducibles: (0..shape.abducibles).map(Atom).collect(),
@@ -174,24 +175,10 @@ fn effect(shape: &Shape, number: u16) -> ObjectiveLiteral {
     ObjectiveLiteral::of(Atom(shape.causes + number))
 }
 
-fn holds(objective: ObjectiveLiteral) -> Literal {
-    Literal(2 * objective.0)
-}
-
-fn fails(objective: ObjectiveLiteral) -> Literal {
-    Literal(2 * objective.0 + 1)
-}
-
-fn shuffle(random: &mut Random, rules: &mut [Rule]) {
-    for last in (1..rules.len()).rev() {
-        rules.swap(random.between(0, last), last);
-    }
-}
-
 #[cfg(test)]
 mod tests {
     use super::*;
-    use compare::judge_coverage::Judged;
+    use compare::judged::Judged;
     use plain::{explanations, minimal_explanations, model, read_papers, Judgement};
 
     const SHAPES: [Shape; 3] = [SMALL, MIDDLE, LARGE];

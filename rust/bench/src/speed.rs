@@ -1,13 +1,11 @@
 //! Scenarios settled a second, by either finder.
 
 use plain::dual::LONGEST_DUAL;
+use plain::model::LONGEST_MODEL;
 
 use crate::files::Papers;
 use crate::searching::{by_finder, by_plain, Outcome};
 use crate::timing::{a_second, grouped, seconds_each};
-
-/// No model is longer.
-const LONGEST_MODEL: usize = 513;
 
 /// How many scenarios are judged between two looks at the clock.
 const JUDGED_AT_ONCE: u32 = 64;

@@ -6,6 +6,7 @@ use std::ptr::null_mut;
 
 use plain::desk::LIST_LENGTH;
 use plain::dual::LONGEST_DUAL;
+use plain::model::LONGEST_MODEL;
 
 use crate::files::Papers;
 
@@ -19,7 +20,7 @@ const PATTERN: u64 = 0xA5C3_5A3C_96E1_781E;
 pub fn print(papers: &Papers) {
     let Papers { file, sheet, .. } = papers;
     let mut dual = vec![0; LONGEST_DUAL];
-    let mut model = vec![0; 513];
+    let mut model = vec![0; LONGEST_MODEL];
     let mut list = vec![0; LIST_LENGTH];
     let nothing = used_by(|| {});
     let judging = used_by(|| {

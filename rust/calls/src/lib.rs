@@ -4,13 +4,16 @@
 //! * [`text`] makes papers of programs and queries;
 //! * [`programs`] are the programs of the calls;
 //! * [`judging`] are the calls that judge a scenario, [`searching`] those that
-//!   search among all.
+//!   search among all, and [`continuing`] those that go on with a search;
+//! * [`lent`] fills what is lent.
 //!
 //! Nothing here comes from a finder, so that any can be tested with it.
 
 #![forbid(unsafe_code)]
 
+pub mod continuing;
 pub mod judging;
+pub mod lent;
 pub mod programs;
 pub mod searching;
 pub mod text;

@@ -2,19 +2,21 @@
 //! not, conjugates, and bodies that lead back to abducibles.
 
 use plain::{Atom, Literal, ObjectiveLiteral, Program, Query, Rule};
+use random::Random;
 
-use crate::random::Random;
+use crate::programs::{fails, heads, holds, some_atoms};
 
 /// A program with so many abducibles and other atoms. Of the latter there is at
 /// least one.
 pub fn causes(random: &mut Random, abducibles: usize, others: usize) -> Program {
+    let atoms = (abducibles + others) as u16;
     let mut program = Program {
-        atoms: (abducibles + others) as u16,
-        abducibles: some_atoms(random, abducibles, others),
+        atoms,
+        abducibles: some_atoms(random, atoms, abducibles),
         rules: vec![],
         integrity_bodies: vec![],
     };
-    let heads = heads(&program);
+    let heads = heads(atoms, &program.abducibles);
     for _ in 0..random.below(2 * heads.len() + 1) {
         let head = random.pick(&heads);
         let body = body(random, &program, 3);
@@ -29,7 +31,7 @@ pub fn causes(random: &mut Random, abducibles: usize, others: usize) -> Program 
     if random.one_in(2) {
         add_conjugates(random, &mut program, &heads);
     }
-    shuffle(random, &mut program.rules);
+    random.shuffle(&mut program.rules);
     for _ in 0..random.pick(&[0, 0, 0, 1, 1, 2]) {
         let body = body(random, &program, 2);
         program.integrity_bodies.push(body);
@@ -37,7 +39,7 @@ pub fn causes(random: &mut Random, abducibles: usize, others: usize) -> Program 
     program
 }
 
-/// A query for heads of rules, as a rule.
+/// A query, most often for heads of rules.
 pub fn query_of_heads(random: &mut Random, program: &Program) -> Query {
     let literals = if program.rules.is_empty() || random.one_in(6) {
         body(random, program, 2)
@@ -50,22 +52,6 @@ pub fn query_of_heads(random: &mut Random, program: &Program) -> Query {
             .collect()
     };
     Query { literals }
-}
-
-/// So many of the atoms, rising, with so many others between them.
-fn some_atoms(random: &mut Random, count: usize, others: usize) -> Vec<Atom> {
-    let mut atoms: Vec<Atom> = (0..count + others).map(|atom| Atom(atom as u16)).collect();
-    while atoms.len() > count {
-        atoms.remove(random.below(atoms.len()));
-    }
-    atoms
-}
-
-fn heads(program: &Program) -> Vec<ObjectiveLiteral> {
-    (0..2 * program.atoms)
-        .map(ObjectiveLiteral)
-        .filter(|head| !program.abducibles.contains(&head.atom()))
-        .collect()
 }
 
 /// At most so many literals, less often none. About every other one is of an
@@ -133,20 +119,6 @@ fn add_conjugates(random: &mut Random, program: &mut Program, heads: &[Objective
         let body = body(random, program, 1);
         program.rules.push(Rule { head, body });
     }
-}
-
-fn shuffle(random: &mut Random, rules: &mut [Rule]) {
-    for last in (1..rules.len()).rev() {
-        rules.swap(random.between(0, last), last);
-    }
-}
-
-fn holds(objective: ObjectiveLiteral) -> Literal {
-    Literal(2 * objective.0)
-}
-
-fn fails(objective: ObjectiveLiteral) -> Literal {
-    Literal(2 * objective.0 + 1)
 }
 
 fn either(random: &mut Random, objective: ObjectiveLiteral) -> Literal {

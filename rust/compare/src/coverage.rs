@@ -8,12 +8,11 @@ use plain::field::{
 };
 use plain::{Literal, Number, Paper, Program, Query, Refusal};
 
-/// What must occur, must occur so often.
-pub const LEAST: u64 = 100;
+use crate::tally::{Counted, LEAST};
 
 const PAPERS: [Paper; 2] = [Paper::File, Paper::Sheet];
 
-pub const NUMBERS: [Number; 10] = [
+const NUMBERS: [Number; 10] = [
     Number::Cut,
     Number::StrayField,
     Number::Misfit,
@@ -138,9 +137,10 @@ impl Coverage {
         let number = position(&NUMBERS, &refusal.number);
         self.refused[paper][number][position(&FOUND, &found)] += 1;
     }
+}
 
-    /// What came too rarely, and what came though it can't.
-    pub fn complaints(&self) -> Vec<String> {
+impl Counted for Coverage {
+    fn complaints(&self) -> Vec<String> {
         let mut complaints = Vec::new();
         let mut expect = |what: String, count: u64, can_occur: bool| {
             if can_occur && count < LEAST {

@@ -1,13 +1,11 @@
 //! Which files had a dual and what was in it, which buffers were lent for it,
 //! and which of these must come for a comparison to be worth something.
 
-use std::fmt;
-
 use plain::dual::LONGEST_DUAL;
 use plain::field::{MOST_ABDUCIBLES, MOST_ATOMS, MOST_INTEGRITY_RULES, MOST_LITERALS, MOST_RULES};
 use plain::{dual, encode_dual, Dual, Entry, Literal, ObjectiveLiteral, Program, Refusal};
 
-use crate::coverage::{LEAST, NUMBERS};
+use crate::tally::{Counted, Feature, Numbers, Tally, OF_FILE};
 
 /// An accepted file: its program and its dual.
 pub struct Accepted {
@@ -46,10 +44,8 @@ impl Accepted {
     }
 }
 
-type Holds = fn(&Accepted) -> bool;
-
 /// What there can be in an accepted file or in its dual.
-const FEATURES: [(&str, Holds); 22] = [
+const ACCEPTED: &[Feature<Accepted>] = &[
     ("an abducible", |file| !file.program.abducibles.is_empty()),
     ("a fact", |file| {
         file.program.rules.iter().any(|rule| rule.body.is_empty())
@@ -123,106 +119,75 @@ fn is_negation(literal: ObjectiveLiteral) -> bool {
     literal.0 % 2 == 1
 }
 
-/// How many bytes a lent buffer has, beside how many the dual has.
-type Lent = fn(usize, usize) -> bool;
+/// A buffer lent for the dual of an accepted file.
+pub struct Buffer {
+    pub length: usize,
+    pub dual_length: usize,
+}
 
-/// Those that are too short.
-const SHORT: [(&str, Lent); 3] = [
-    ("an empty buffer", |lent, _| lent == 0),
-    ("one byte too few", |lent, dual| lent + 1 == dual),
-    ("any other", |lent, dual| 0 < lent && lent + 1 < dual),
+const SHORT: &[Feature<Buffer>] = &[
+    ("an empty buffer", |it| it.length == 0),
+    ("one byte too few", |it| it.length + 1 == it.dual_length),
+    ("any other", |it| {
+        0 < it.length && it.length + 1 < it.dual_length
+    }),
 ];
 
-/// Those that are long enough.
-const LONG_ENOUGH: [(&str, Lent); 2] = [
-    ("no byte to spare", |lent, dual| lent == dual),
-    ("bytes to spare", |lent, dual| lent > dual),
+const LONG_ENOUGH: &[Feature<Buffer>] = &[
+    ("no byte to spare", |it| it.length == it.dual_length),
+    ("bytes to spare", |it| it.length > it.dual_length),
 ];
 
 /// How often each answer came.
-#[derive(Default)]
 pub struct DualCoverage {
-    /// Files, by number.
-    refused: [u64; NUMBERS.len()],
-    accepted: u64,
-    with: [u64; FEATURES.len()],
-    /// Buffers lent with an accepted file.
-    short: [u64; SHORT.len()],
-    long_enough: [u64; LONG_ENOUGH.len()],
+    refused: Numbers,
+    accepted: Tally<Accepted>,
+    short: Tally<Buffer>,
+    long_enough: Tally<Buffer>,
+}
+
+impl Default for DualCoverage {
+    fn default() -> Self {
+        DualCoverage {
+            refused: Numbers::new("file refused", OF_FILE),
+            accepted: Tally::new("files accepted", ACCEPTED),
+            short: Tally::new("refused 11", SHORT),
+            long_enough: Tally::new("written", LONG_ENOUGH),
+        }
+    }
 }
 
 impl DualCoverage {
     pub fn count_refused(&mut self, refusal: &Refusal) {
-        let number = NUMBERS.iter().position(|&other| other == refusal.number);
-        self.refused[number.expect("all there are of them")] += 1;
+        self.refused.count(refusal.number as u8);
     }
 
     pub fn count_accepted(&mut self, file: &Accepted) {
-        self.accepted += 1;
-        for (count, (_, holds)) in self.with.iter_mut().zip(FEATURES) {
-            *count += u64::from(holds(file));
+        self.accepted.count(file);
+    }
+
+    pub fn count_lent(&mut self, buffer: &Buffer) {
+        if buffer.length < buffer.dual_length {
+            self.short.count(buffer);
+        } else {
+            self.long_enough.count(buffer);
         }
     }
 
-    /// Counts a buffer of so many bytes lent for an accepted file.
-    pub fn count_lent(&mut self, lent: usize, dual_length: usize) {
-        let short = self.short.iter_mut().zip(SHORT);
-        let long_enough = self.long_enough.iter_mut().zip(LONG_ENOUGH);
-        for (count, (_, is_it)) in short.chain(long_enough) {
-            *count += u64::from(is_it(lent, dual_length));
-        }
-    }
-
-    /// What came too rarely.
-    pub fn complaints(&self) -> Vec<String> {
-        let mut complaints = Vec::new();
-        let mut expect = |what: String, count: u64| {
-            if count < LEAST {
-                complaints.push(format!("only {count} times: {what}"));
-            }
-        };
-        for (number, &count) in NUMBERS.into_iter().zip(&self.refused) {
-            expect(format!("file refused {number:?}"), count);
-        }
-        expect("file accepted".to_string(), self.accepted);
-        for (&count, (name, _)) in self.with.iter().zip(FEATURES) {
-            expect(format!("accepted with {name}"), count);
-        }
-        for (&count, (name, _)) in self.short.iter().zip(SHORT) {
-            expect(format!("refused 11 with {name}"), count);
-        }
-        for (&count, (name, _)) in self.long_enough.iter().zip(LONG_ENOUGH) {
-            expect(format!("written with {name}"), count);
-        }
-        complaints
-    }
-}
-
-impl fmt::Display for DualCoverage {
-    fn fmt(&self, f: &mut fmt::Formatter) -> fmt::Result {
-        writeln!(f, "files refused, by number")?;
-        for (number, count) in NUMBERS.into_iter().zip(&self.refused) {
-            writeln!(f, "    {:2}: {count}", number as u8)?;
-        }
-        writeln!(f, "files accepted {}", self.accepted)?;
-        for (count, (name, _)) in self.with.iter().zip(FEATURES) {
-            writeln!(f, "    with {name}: {count}")?;
-        }
-        writeln!(f, "refused 11 {}", self.short.iter().sum::<u64>())?;
-        for (count, (name, _)) in self.short.iter().zip(SHORT) {
-            writeln!(f, "    with {name}: {count}")?;
-        }
-        writeln!(f, "written {}", self.long_enough.iter().sum::<u64>())?;
-        for (count, (name, _)) in self.long_enough.iter().zip(LONG_ENOUGH) {
-            writeln!(f, "    with {name}: {count}")?;
-        }
-        Ok(())
+    pub fn parts(&self) -> [&dyn Counted; 4] {
+        [
+            &self.refused,
+            &self.accepted,
+            &self.short,
+            &self.long_enough,
+        ]
     }
 }
 
 #[cfg(test)]
 mod tests {
     use super::*;
+    use crate::tally::LEAST;
     use plain::{Atom, Number, Paper, Rule};
 
     fn rule(head: u16, body: &[u16]) -> Rule {
@@ -238,8 +203,8 @@ mod tests {
 
     fn features(program: Program) -> Vec<&'static str> {
         let file = Accepted::new(program);
-        let held = FEATURES.iter().filter(|(_, holds)| holds(&file));
-        held.map(|&(name, _)| name).collect()
+        let features = ACCEPTED.iter().filter(|(_, has)| has(&file));
+        features.map(|&(name, _)| name).collect()
     }
 
     #[test]
@@ -292,23 +257,38 @@ mod tests {
 
     #[test]
     fn every_buffer_is_counted_once() {
-        for lent in 0..8 {
+        for length in 0..8 {
+            let buffer = Buffer {
+                length,
+                dual_length: 5,
+            };
+            let count = |features: &[Feature<Buffer>]| {
+                let had = features.iter().filter(|(_, has)| has(&buffer));
+                had.count()
+            };
+            let is_short = length < 5;
+            let expected = if is_short { (1, 0) } else { (0, 1) };
+            assert_eq!((count(SHORT), count(LONG_ENOUGH)), expected);
+
             let mut coverage = DualCoverage::default();
-            coverage.count_lent(lent, 5);
-            let short: u64 = coverage.short.iter().sum();
-            let long_enough: u64 = coverage.long_enough.iter().sum();
-            assert_eq!((short, long_enough), if lent < 5 { (1, 0) } else { (0, 1) });
+            coverage.count_lent(&buffer);
+            assert_eq!(coverage.short.subjects(), u64::from(is_short));
+            assert_eq!(coverage.long_enough.subjects(), u64::from(!is_short));
         }
     }
 
     #[test]
     fn what_never_came_is_complained_of() {
         let mut coverage = DualCoverage::default();
+        let complaints = |coverage: &DualCoverage| {
+            let complaints = coverage.parts().map(|part| part.complaints().len());
+            complaints.iter().sum::<usize>()
+        };
         let numbers_up_to_10 = 10;
-        let accepted = 1 + 22;
+        let accepted = 22;
         let buffers = 3 + 2;
         let all = numbers_up_to_10 + accepted + buffers;
-        assert_eq!(coverage.complaints().len(), all);
+        assert_eq!(complaints(&coverage), all);
         let refusal = Refusal {
             number: Number::Tail,
             paper: Paper::File,
@@ -317,6 +297,6 @@ mod tests {
         for _ in 0..LEAST {
             coverage.count_refused(&refusal);
         }
-        assert_eq!(coverage.complaints().len(), all - 1);
+        assert_eq!(complaints(&coverage), all - 1);
     }
 }

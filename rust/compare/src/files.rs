@@ -1,11 +1,11 @@
 //! Programs, damage and noise put together into files for their duals.
 
 use plain::{encode_file, Program};
+use random::Random;
 
 use crate::damage::{a_few, damaged, Bounds};
 use crate::noise::{noise, noise_after, soup, tag_noise};
 use crate::programs::{add_facts, program, Size};
-use crate::random::Random;
 
 /// What the files are made for.
 pub trait FileExaminer {

@@ -1,204 +1,13 @@
 //! Which scenarios were judged and what came of it, which buffers were lent for
 //! them, and which of these must come for a comparison to be worth something.
 
-use std::fmt;
+use plain::{JudgeRefusal, Paper};
 
-use plain::field::{MOST_ABDUCIBLES, MOST_ATOMS, MOST_INTEGRITY_RULES, MOST_LITERALS, MOST_RULES};
-use plain::{
-    digits, dual, scenario_count, Digit, Form, JudgeRefusal, Judgement, Literal, ObjectiveLiteral,
-    Paper, Program, Query,
-};
-
-use crate::tally::{Feature, Numbers, Tally, OF_FILE, OF_SHEET};
-
-/// A judged scenario.
-pub struct Judged {
-    pub program: Program,
-    pub query: Query,
-    pub scenario: u32,
-    pub judgement: Judgement,
-    /// The model's bytes.
-    pub model: Vec<u8>,
-}
-
-const UNDEFINED: u8 = 0;
-const TRUE: u8 = 1;
-const FALSE: u8 = 2;
-const BOTH: u8 = 3;
-
-impl Judged {
-    fn is_true(&self, literal: ObjectiveLiteral) -> bool {
-        [TRUE, BOTH].contains(&self.byte(literal))
-    }
-
-    fn is_false(&self, literal: ObjectiveLiteral) -> bool {
-        [FALSE, BOTH].contains(&self.byte(literal))
-    }
-
-    fn byte(&self, literal: ObjectiveLiteral) -> u8 {
-        self.model[usize::from(literal.0)]
-    }
-
-    fn falsum(&self) -> u8 {
-        self.byte(ObjectiveLiteral::falsum(self.program.atoms))
-    }
-
-    fn holds(&self, literal: &Literal) -> bool {
-        match literal.form() {
-            Form::Objective(objective) => self.is_true(objective),
-            Form::Not(objective) => self.is_false(objective),
-        }
-    }
-
-    fn query_holds(&self) -> bool {
-        let mut literals = self.query.literals.iter();
-        literals.all(|literal| self.holds(literal))
-    }
-
-    /// Whether some literal that is neither abducible nor falsum is so.
-    fn has(&self, holds: impl Fn(ObjectiveLiteral) -> bool) -> bool {
-        (0..2 * self.program.atoms)
-            .map(ObjectiveLiteral)
-            .any(|literal| !self.program.abducibles.contains(&literal.atom()) && holds(literal))
-    }
-
-    fn has_byte(&self, byte: u8) -> bool {
-        self.has(|literal| self.byte(literal) == byte)
-    }
-
-    fn has_negation(&self, byte: u8) -> bool {
-        self.has(|literal| literal.0 % 2 == 1 && self.byte(literal) == byte)
-    }
-
-    fn has_digit(&self, digit: Digit) -> bool {
-        digits(self.scenario, self.program.abducibles.len()).contains(&digit)
-    }
-
-    /// Whether the query has a literal of one that is both.
-    fn asks_for_both(&self, is_it: impl Fn(Form) -> Option<ObjectiveLiteral>) -> bool {
-        let mut forms = self.query.literals.iter().map(|literal| literal.form());
-        forms.any(|form| is_it(form).is_some_and(|objective| self.byte(objective) == BOTH))
-    }
-
-    /// Whether a body that could hold does not make its head possible.
-    fn is_false_by_conjugate_alone(&self) -> bool {
-        let can_hold = |literal: &Literal| match literal.form() {
-            Form::Objective(objective) => !self.is_false(objective),
-            Form::Not(objective) => !self.is_true(objective),
-        };
-        let mut folds = self.program.folds();
-        folds.any(|(_, head, body)| self.is_false(head) && body.iter().all(can_hold))
-    }
-
-    /// Whether the least set of backed literals would be less than the greatest.
-    pub fn has_failing_ring(&self) -> bool {
-        let Program {
-            atoms, abducibles, ..
-        } = &self.program;
-        let is_backed_alone = |literal: ObjectiveLiteral| {
-            let conjugate = literal.conjugate(*atoms);
-            let is_falsum = conjugate.is_none();
-            conjugate.is_some_and(|conjugate| self.is_true(conjugate))
-                || !is_falsum && abducibles.contains(&literal.atom()) && self.is_false(literal)
-        };
-        let dual = dual(&self.program);
-        let judged = ObjectiveLiteral::judged(*atoms);
-        let mut least: Vec<bool> = judged.map(is_backed_alone).collect();
-        let mut has_grown = true;
-        while has_grown {
-            has_grown = false;
-            for entry in &dual.entries {
-                let holds = |literal: &Literal| match literal.form() {
-                    Form::Objective(objective) => self.is_true(objective),
-                    Form::Not(objective) => least[usize::from(objective.0)],
-                };
-                let mut foldings = entry.foldings.iter();
-                let at = usize::from(entry.literal.0);
-                if !least[at] && foldings.all(|folding| folding.conjugates.iter().any(holds)) {
-                    least[at] = true;
-                    has_grown = true;
-                }
-            }
-        }
-        ObjectiveLiteral::judged(*atoms)
-            .any(|literal| self.is_false(literal) && !least[usize::from(literal.0)])
-    }
-}
-
-const JUDGED: &[Feature<Judged>] = &[
-    ("an explanation", |it| it.judgement.explains),
-    ("no explanation", |it| !it.judgement.explains),
-    ("no rounds", |it| it.judgement.rounds == 0),
-    ("1 round", |it| it.judgement.rounds == 1),
-    ("2 rounds", |it| it.judgement.rounds == 2),
-    ("3 rounds", |it| it.judgement.rounds == 3),
-    ("4 rounds", |it| it.judgement.rounds == 4),
-    ("5 rounds or more", |it| it.judgement.rounds >= 5),
-    ("8 rounds or more", |it| it.judgement.rounds >= 8),
-    ("a literal undefined", |it| it.has_byte(UNDEFINED)),
-    ("a literal true", |it| it.has_byte(TRUE)),
-    ("a literal false", |it| it.has_byte(FALSE)),
-    ("a literal both", |it| it.has_byte(BOTH)),
-    ("falsum undefined", |it| it.falsum() == UNDEFINED),
-    ("falsum true", |it| it.falsum() == TRUE),
-    ("falsum false", |it| it.falsum() == FALSE),
-    ("falsum both", |it| it.falsum() == BOTH),
-    ("a ring that fails", Judged::has_failing_ring),
-    ("an explicit negation true", |it| it.has_negation(TRUE)),
-    ("an explicit negation undefined", |it| {
-        it.has_negation(UNDEFINED)
-    }),
-    (
-        "a literal false by its conjugate alone",
-        Judged::is_false_by_conjugate_alone,
-    ),
-    ("an explanation by a literal that is both", |it| {
-        let objective = |form| match form {
-            Form::Objective(objective) => Some(objective),
-            Form::Not(_) => None,
-        };
-        it.judgement.explains && it.asks_for_both(objective)
-    }),
-    ("an explanation by not of a literal that is both", |it| {
-        let objective = |form| match form {
-            Form::Objective(_) => None,
-            Form::Not(objective) => Some(objective),
-        };
-        it.judgement.explains && it.asks_for_both(objective)
-    }),
-    ("a query that holds while falsum is undefined", |it| {
-        it.query_holds() && it.falsum() == UNDEFINED
-    }),
-    ("a query that holds while falsum is true", |it| {
-        it.query_holds() && it.falsum() == TRUE
-    }),
-    ("a query that holds while falsum is both", |it| {
-        it.query_holds() && it.falsum() == BOTH
-    }),
-    ("an empty query", |it| it.query.literals.is_empty()),
-    ("an abducible open", |it| it.has_digit(Digit::Open)),
-    ("an abducible assumed", |it| it.has_digit(Digit::Assumed)),
-    ("an abducible ruled out", |it| it.has_digit(Digit::RuledOut)),
-    ("the last of several scenarios", |it| {
-        it.scenario > 0 && it.scenario == scenario_count(&it.program) - 1
-    }),
-    ("no abducibles", |it| it.program.abducibles.is_empty()),
-    ("16 abducibles", |it| {
-        it.program.abducibles.len() == MOST_ABDUCIBLES
-    }),
-    ("256 atoms", |it| it.program.atoms == MOST_ATOMS),
-    ("1,024 rules", |it| it.program.rules.len() == MOST_RULES),
-    ("256 integrity rules", |it| {
-        it.program.integrity_bodies.len() == MOST_INTEGRITY_RULES
-    }),
-    ("a body of 16 literals", |it| {
-        let mut folds = it.program.folds();
-        folds.any(|(_, _, body)| body.len() == MOST_LITERALS)
-    }),
-];
+use crate::judged::{Judged, JUDGED};
+use crate::tally::{Counted, Feature, Numbers, Tally, OF_FILE, OF_SHEET};
 
 /// What is lent with accepted papers, beside what must be.
-pub struct Lent {
+pub struct Lending {
     pub dual: usize,
     pub dual_length: usize,
     pub model: usize,
@@ -207,7 +16,7 @@ pub struct Lent {
     pub scenarios: u32,
 }
 
-impl Lent {
+impl Lending {
     fn has_room(&self) -> bool {
         self.dual >= self.dual_length && self.model >= self.model_length
     }
@@ -225,7 +34,7 @@ impl Lent {
     }
 }
 
-const LENT: &[Feature<Lent>] = &[
+const LENT: &[Feature<Lending>] = &[
     ("no byte to spare in both buffers", |lent| {
         lent.dual == lent.dual_length && lent.model == lent.model_length
     }),
@@ -267,7 +76,7 @@ pub struct JudgeCoverage {
     file: Numbers,
     sheet: Numbers,
     call: Numbers,
-    lent: Tally<Lent>,
+    lent: Tally<Lending>,
     judged: Tally<Judged>,
 }
 
@@ -294,7 +103,7 @@ impl JudgeCoverage {
         .count(number);
     }
 
-    pub fn count_lent(&mut self, lent: &Lent) {
+    pub fn count_lent(&mut self, lent: &Lending) {
         self.lent.count(lent);
     }
 
@@ -307,96 +116,27 @@ impl JudgeCoverage {
         self.judged.subjects()
     }
 
-    /// What came too rarely.
-    pub fn complaints(&self) -> Vec<String> {
+    pub fn parts(&self) -> [&dyn Counted; 5] {
         [
-            self.file.complaints(),
-            self.sheet.complaints(),
-            self.call.complaints(),
-            self.lent.complaints(),
-            self.judged.complaints(),
+            &self.file,
+            &self.sheet,
+            &self.call,
+            &self.lent,
+            &self.judged,
         ]
-        .concat()
-    }
-}
-
-impl fmt::Display for JudgeCoverage {
-    fn fmt(&self, f: &mut fmt::Formatter) -> fmt::Result {
-        write!(f, "{}{}{}", self.file, self.sheet, self.call)?;
-        write!(f, "{}{}", self.lent, self.judged)
     }
 }
 
 #[cfg(test)]
 mod tests {
     use super::*;
-    use plain::{model, read_papers};
-
-    fn judged(atoms: &str, abducibles: &str, rules: &str, query: &str, scenario: u32) -> Judged {
-        let (file, sheet) = (
-            calls::file(atoms, abducibles, rules),
-            calls::sheet(atoms, query),
-        );
-        let (program, query) = read_papers(&file, &sheet).expect("accepted papers");
-        Judged {
-            judgement: Judgement::of(&program, &query, scenario),
-            model: model(&program, scenario).bytes(),
-            program,
-            query,
-            scenario,
-        }
-    }
-
-    fn ring_fails(atoms: &str, abducibles: &str, rules: &str, scenario: u32) -> bool {
-        judged(atoms, abducibles, rules, "", scenario).has_failing_ring()
-    }
-
-    #[test]
-    fn a_ring_fails_where_it_has_no_way_in() {
-        assert!(ring_fails("p", "", "p :- p", 0));
-        assert!(ring_fails("p q", "", "p :- q; q :- p", 0));
-        assert!(!ring_fails("p q", "", "p :- q; q :- p; q", 0));
-        assert!(!ring_fails("p q", "", "p :- q", 0));
-        assert!(!ring_fails("p", "", "p :- not p", 0));
-        let with_way_in = "p :- q; q :- p; q :- a";
-        assert!(!ring_fails("p q a", "a", with_way_in, 0));
-        assert!(!ring_fails("p q a", "a", with_way_in, 1));
-        assert!(ring_fails("p q a", "a", with_way_in, 2));
-        // The conjugate makes both false without the ring.
-        assert!(!ring_fails("p q", "", "p :- q; q :- p; -p", 0));
-    }
-
-    #[test]
-    fn a_literal_is_false_by_its_conjugate_alone() {
-        let is_it = |rules| judged("p q", "", rules, "", 0).is_false_by_conjugate_alone();
-        assert!(is_it("p :- not p; -p"));
-        assert!(is_it("p; -p"));
-        assert!(!is_it("p :- q; -p"));
-        assert!(!is_it("p :- not p"));
-    }
-
-    #[test]
-    fn the_features_of_a_contradiction() {
-        let it = judged("a d", "a", "d :- a; -d; falsum :- d, -d", "d, not d", 1);
-        let features = JUDGED.iter().filter(|(_, has)| has(&it));
-        let names: Vec<&str> = features.map(|&(name, _)| name).collect();
-        let expected = [
-            "no explanation",
-            "2 rounds",
-            "a literal both",
-            "falsum both",
-            "a literal false by its conjugate alone",
-            "a query that holds while falsum is both",
-            "an abducible assumed",
-        ];
-        assert_eq!(names, expected);
-    }
 
     #[test]
     fn what_never_came_is_complained_of() {
         let numbers = 10 + 5 + 3;
         let features = LENT.len() + JUDGED.len();
-        let complaints = JudgeCoverage::default().complaints();
-        assert_eq!(complaints.len(), numbers + features);
+        let coverage = JudgeCoverage::default();
+        let complaints = coverage.parts().map(|part| part.complaints().len());
+        assert_eq!(complaints.iter().sum::<usize>(), numbers + features);
     }
 }

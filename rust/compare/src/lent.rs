@@ -4,8 +4,9 @@
 use std::fmt::Debug;
 
 use plain::dual::LONGEST_DUAL;
+use random::Random;
 
-use crate::random::Random;
+use crate::words::Words;
 
 /// The items before a lent part, and after it, that must stay.
 const MARGIN: usize = 16;
@@ -55,7 +56,7 @@ impl Patterns {
     }
 
     /// What the words hold.
-    pub fn words<const SLOTS: usize>(&mut self) -> [u64; SLOTS] {
+    pub fn words(&mut self) -> Words {
         std::array::from_fn(|_| self.random.word())
     }
 }

@@ -1,37 +1,43 @@
 //! Random papers on which the separate finder and the finder behind the C
 //! boundary must agree, and a count of what they reached.
 //!
-//! * [`random`] makes random numbers;
-//! * [`programs`] makes programs and queries, within and around the limits, and
-//!   [`causes`] small ones in which much follows;
-//! * [`fields`] takes papers apart, and [`damage`] damages their bytes, fields
-//!   and numbers;
+//! * [`programs`] makes programs and queries, within and around the limits;
+//!   [`causes`] small ones in which much follows, and [`edges`] the largest, by
+//!   hand;
+//! * [`fields`] takes papers apart, [`places`] says where to damage them, and
+//!   [`damage`] damages their bytes, fields and numbers;
 //! * [`noise`] makes bytes that were never a paper;
 //! * [`rounds`] puts these together into pairs of papers, and [`files`] into
-//!   files for their duals;
+//!   files for their duals; [`searches`] makes calls that continue searches;
 //! * [`lent`] makes the buffers and lists that are lent;
 //! * [`examples`] are calls that were not made at random;
+//! * [`comparison`] is what all comparisons do, with the [`words`] that must
+//!   come, and `run` what they print as tests;
 //! * [`coverage`] counts which answers came to pairs of papers, and knows which
 //!   must; [`dual_coverage`] does so for the writing of duals, [`judge_coverage`]
-//!   for judging and [`search_coverage`] for continuing, the last two with the
-//!   counts of [`tally`];
-//! * [`run`] is what a test prints.
+//!   for judging, with what [`judged`] scenarios have, and [`search_coverage`]
+//!   for continuing, the last three with the counts of [`tally`].
 
 #![forbid(unsafe_code)]
 
 pub mod causes;
+pub mod comparison;
 pub mod coverage;
 pub mod damage;
 pub mod dual_coverage;
+pub mod edges;
 pub mod examples;
 pub mod fields;
 pub mod files;
 pub mod judge_coverage;
+pub mod judged;
 pub mod lent;
 pub mod noise;
+pub mod places;
 pub mod programs;
-pub mod random;
 pub mod rounds;
-pub mod run;
+mod run;
 pub mod search_coverage;
+pub mod searches;
 pub mod tally;
+pub mod words;

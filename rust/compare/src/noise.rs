@@ -1,8 +1,9 @@
 //! Bytes that were never a paper, or only at their beginning.
 
+use random::Random;
+
 use crate::damage::a_tag;
 use crate::fields::Fields;
-use crate::random::Random;
 
 /// Any bytes.
 pub fn noise(random: &mut Random) -> Vec<u8> {

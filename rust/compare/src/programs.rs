@@ -2,8 +2,7 @@
 
 use plain::field::{MOST_ABDUCIBLES, MOST_ATOMS, MOST_INTEGRITY_RULES, MOST_LITERALS, MOST_RULES};
 use plain::{Atom, Literal, ObjectiveLiteral, Program, Query, Rule};
-
-use crate::random::Random;
+use random::Random;
 
 /// How large a program and its query are.
 #[derive(Clone, Copy, Debug)]
@@ -129,11 +128,8 @@ fn around(random: &mut Random, limit: usize) -> usize {
 /// A program of this size, save that it has fewer abducibles where it has not
 /// the atoms for them, and no rules where no head is left for them.
 pub fn program(random: &mut Random, size: &Size) -> Program {
-    let abducibles = atoms(random, size.atoms, size.abducibles);
-    let heads: Vec<ObjectiveLiteral> = (0..2 * size.atoms)
-        .map(ObjectiveLiteral)
-        .filter(|head| !abducibles.contains(&head.atom()))
-        .collect();
+    let abducibles = some_atoms(random, size.atoms, size.abducibles);
+    let heads = heads(size.atoms, &abducibles);
     let rules = if heads.is_empty() { 0 } else { size.rules };
     Program {
         atoms: size.atoms,
@@ -166,13 +162,31 @@ pub fn add_facts(random: &mut Random, program: &mut Program) {
     }
 }
 
-/// Some of the atoms below `count`, at most `most`, strictly rising.
-fn atoms(random: &mut Random, count: u16, most: usize) -> Vec<Atom> {
-    let mut left: Vec<Atom> = (0..count).map(Atom).collect();
-    while left.len() > most {
+/// So many of the atoms, or all where there are fewer, strictly rising.
+pub fn some_atoms(random: &mut Random, atoms: u16, count: usize) -> Vec<Atom> {
+    let mut left: Vec<Atom> = (0..atoms).map(Atom).collect();
+    while left.len() > count {
         left.remove(random.below(left.len()));
     }
     left
+}
+
+/// The objective literals that can head a rule.
+pub fn heads(atoms: u16, abducibles: &[Atom]) -> Vec<ObjectiveLiteral> {
+    (0..2 * atoms)
+        .map(ObjectiveLiteral)
+        .filter(|head| !abducibles.contains(&head.atom()))
+        .collect()
+}
+
+/// The literal o.
+pub fn holds(objective: ObjectiveLiteral) -> Literal {
+    Literal(2 * objective.0)
+}
+
+/// The literal not(o).
+pub fn fails(objective: ObjectiveLiteral) -> Literal {
+    Literal(2 * objective.0 + 1)
 }
 
 fn literals(random: &mut Random, size: &Size) -> Vec<Literal> {

@@ -1,13 +1,14 @@
 //! Programs, damage and noise put together into pairs of papers.
 
 use plain::{encode_file, encode_sheet, Program, Query};
+use random::Random;
 
 use crate::causes::{causes, query_of_heads};
-use crate::damage::{a_few, damaged, Bounds, FIRST_PAST_LIMIT};
+use crate::damage::{a_few, damaged, Bounds};
 use crate::fields::Fields;
 use crate::noise::{noise, noise_after, soup, tag_noise};
+use crate::places::FIRST_PAST_LIMIT;
 use crate::programs::{program, query, Size};
-use crate::random::Random;
 
 /// What the papers are made for.
 pub trait Examiner {

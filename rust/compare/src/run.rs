@@ -1,8 +1,6 @@
-//! What a comparison prints: the lines of a test harness with one test, and
-//! what it was run on.
+//! What a comparison prints: the lines of a test harness with one test.
 
 use std::env;
-use std::fmt::Write;
 use std::process::exit;
 use std::time::{Instant, SystemTime, UNIX_EPOCH};
 
@@ -28,7 +26,7 @@ impl Run {
         }
     }
 
-    /// Passes where the coverage has no complaints.
+    /// Passes where there are no complaints.
     pub fn end(&self, complaints: &[String]) {
         if !complaints.is_empty() {
             self.fail(&complaints.join("\n"));
@@ -59,12 +57,4 @@ fn seed() -> u64 {
             now.expect("a clock past 1970").as_nanos() as u64
         }
     }
-}
-
-pub fn hex(bytes: &[u8]) -> String {
-    let mut text = String::new();
-    for byte in bytes {
-        write!(text, "{byte:02X}").expect("a string takes all");
-    }
-    text
 }

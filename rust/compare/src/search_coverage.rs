@@ -1,34 +1,76 @@
 //! Which searches were continued and what came of it, and which of these must
 //! come for a comparison to be worth something.
 
-use std::fmt;
+use plain::{contains_assumptions, ContinueRefusal, Continued, Paper, Record, State};
 
-use plain::{ContinueRefusal, Continued, Paper, Record, State};
-
-use crate::tally::{Feature, Numbers, Tally, OF_FILE, OF_SHEET};
+use crate::searches::{Papers, Terms};
+use crate::tally::{Counted, Feature, Numbers, Tally, OF_FILE, OF_SHEET};
 
 /// A call that was accepted.
 pub struct Call {
     /// 3^k.
-    pub scenarios: u32,
-    pub list_length: usize,
+    scenarios: u32,
+    list_length: usize,
     /// Whether the record was reached from a fresh search.
-    pub is_reached: bool,
-    pub record: Record,
-    pub allowance: u32,
-    pub continued: Continued,
+    is_reached: bool,
+    record: Record,
+    allowance: u32,
+    continued: Continued,
     /// How many explanations were tried and not added for an entry that was
     /// listed before the call, and for those that the call added alone.
-    pub barred_by_earlier: u32,
-    pub barred_by_added: u32,
+    barred_by_earlier: u32,
+    barred_by_added: u32,
     /// Whether the new position is the stopping point and not 3^k.
-    pub is_at_stop: bool,
+    is_at_stop: bool,
 }
 
 /// How many scenarios can be settled at once.
 const LANES: u32 = 64;
 
 impl Call {
+    /// One that went on from the record, with the list as it was before the call
+    /// and as it was after.
+    pub fn new(
+        papers: &mut Papers,
+        terms: &Terms,
+        record: Record,
+        [before, after]: [&[u32]; 2],
+        continued: Continued,
+        is_reached: bool,
+    ) -> Self {
+        let listed = &before[..record.found as usize];
+        let found = &after[..continued.record.found as usize];
+        let contains_one_of = |scenario: u32, entries: &[u32]| {
+            let mut entries = entries.iter();
+            entries.any(|&entry| contains_assumptions(scenario, entry))
+        };
+        let end = continued.record.position;
+        let (mut barred_by_earlier, mut barred_by_added) = (0, 0);
+        for scenario in record.position..end {
+            if papers.search.judgement(scenario).explains && !found.contains(&scenario) {
+                if contains_one_of(scenario, listed) {
+                    barred_by_earlier += 1;
+                } else {
+                    barred_by_added += 1;
+                }
+            }
+        }
+        Call {
+            scenarios: papers.scenarios,
+            list_length: after.len(),
+            is_reached,
+            record,
+            allowance: terms.allowance,
+            continued,
+            barred_by_earlier,
+            barred_by_added,
+            is_at_stop: end < papers.scenarios
+                && found.len() == after.len()
+                && papers.search.judgement(end).explains
+                && !contains_one_of(end, found),
+        }
+    }
+
     fn is(&self, state: State) -> bool {
         self.continued.state == state
     }
@@ -230,23 +272,14 @@ impl SearchCoverage {
         }
     }
 
-    /// What came too rarely.
-    pub fn complaints(&self) -> Vec<String> {
+    pub fn parts(&self) -> [&dyn Counted; 5] {
         [
-            self.file.complaints(),
-            self.sheet.complaints(),
-            self.short_duals.complaints(),
-            self.spoilt.complaints(),
-            self.calls.complaints(),
+            &self.file,
+            &self.sheet,
+            &self.short_duals,
+            &self.spoilt,
+            &self.calls,
         ]
-        .concat()
-    }
-}
-
-impl fmt::Display for SearchCoverage {
-    fn fmt(&self, f: &mut fmt::Formatter) -> fmt::Result {
-        write!(f, "{}{}{}", self.file, self.sheet, self.short_duals)?;
-        write!(f, "{}{}", self.spoilt, self.calls)
     }
 }
 
@@ -281,7 +314,8 @@ mod tests {
     fn what_never_came_is_complained_of() {
         let numbers = 10 + 5;
         let features = SHORT_DUALS.len() + SPOILT.len() + CALLS.len();
-        let complaints = SearchCoverage::default().complaints();
-        assert_eq!(complaints.len(), numbers + features);
+        let coverage = SearchCoverage::default();
+        let complaints = coverage.parts().map(|part| part.complaints().len());
+        assert_eq!(complaints.iter().sum::<usize>(), numbers + features);
     }
 }

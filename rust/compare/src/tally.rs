@@ -3,7 +3,14 @@
 
 use std::fmt;
 
-use crate::coverage::LEAST;
+/// What must occur, must occur so often.
+pub const LEAST: u64 = 100;
+
+/// Counts that a comparison prints at its end.
+pub trait Counted: fmt::Display {
+    /// What came too rarely, or though it can't.
+    fn complaints(&self) -> Vec<String>;
+}
 
 /// A name for what a subject can have, and whether it has it.
 pub type Feature<S> = (&'static str, fn(&S) -> bool);
@@ -37,12 +44,13 @@ impl<S> Tally<S> {
     pub fn subjects(&self) -> u64 {
         self.subjects
     }
+}
 
-    /// What came too rarely.
-    pub fn complaints(&self) -> Vec<String> {
-        let rare = self.counts.iter().zip(self.features);
-        rare.filter(|(&count, _)| count < LEAST)
-            .map(|(count, (name, _))| format!("only {count} times: {} with {name}", self.heading))
+impl<S> Counted for Tally<S> {
+    fn complaints(&self) -> Vec<String> {
+        let counts = self.counts.iter().zip(self.features);
+        let rare = counts.filter(|(&count, _)| count < LEAST);
+        rare.map(|(count, (name, _))| format!("only {count} times: {} with {name}", self.heading))
             .collect()
     }
 }
@@ -82,9 +90,10 @@ impl Numbers {
         let entry = counts.find(|(other, _)| *other == number);
         entry.expect("one of the numbers").1 += 1;
     }
+}
 
-    /// What came too rarely.
-    pub fn complaints(&self) -> Vec<String> {
+impl Counted for Numbers {
+    fn complaints(&self) -> Vec<String> {
         let rare = self.counts.iter().filter(|(_, count)| *count < LEAST);
         rare.map(|(number, count)| format!("only {count} times: {} {number}", self.heading))
             .collect()

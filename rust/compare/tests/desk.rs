@@ -7,8 +7,8 @@ use compare::causes::{causes, query_of_heads};
 use compare::damage::{a_few, damaged, Bounds};
 use compare::examples::examples;
 use compare::noise::noise;
-use compare::random::Random;
 use plain::{desk, encode_file, encode_sheet};
+use random::Random;
 use std::fs;
 use std::path::{Path, PathBuf};
 use std::process::Command;
@@ -16,7 +16,7 @@ use std::process::Command;
 /// Random folders, each with its own seed.
 const FOLDERS: u64 = 400;
 
-/// The desk program reads the first 65,536 bytes of a paper.
+/// More bytes than the desk program reads of a paper.
 const LONG: usize = 70_000;
 
 fn printed(folder: &Path) -> String {

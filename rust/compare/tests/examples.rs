@@ -7,9 +7,8 @@ use compare::examples::{examples, Example};
 use finder::{continue_search, judge, Record, State};
 use plain::desk::LIST_LENGTH;
 use plain::dual::LONGEST_DUAL;
+use plain::model::LONGEST_MODEL;
 use plain::{minimal_explanations, minimal_of, read_papers, scenario_count};
-
-const LONGEST_MODEL: usize = 513;
 
 const ALLOWANCES: [u32; 8] = [1, 2, 3, 7, 63, 64, 65, u32::MAX];
 

@@ -1,16 +1,16 @@
 //! Compares the two finders in judging scenarios of random files.
 
 use compare::causes::{causes, query_of_heads};
-use compare::judge_coverage::{JudgeCoverage, Judged, Lent};
-use compare::lent::Patterns;
-use compare::random::Random;
+use compare::comparison::{Comparison, Told};
+use compare::judge_coverage::{JudgeCoverage, Lending};
+use compare::judged::Judged;
 use compare::rounds::{causes_round, limit_round, mixed_rounds, Examiner};
-use compare::run::{hex, Run};
-use finder::SLOTS;
+use compare::words;
 use plain::{
-    dual, encode_dual, encode_file, encode_sheet, judge, read_papers, scenario_count, JudgeRefusal,
-    Judgement, Paper, Program, Query,
+    dual, encode_dual, encode_file, encode_sheet, judge, read_papers, scenario_count, Program,
+    Query,
 };
+use random::Random;
 
 /// Scenarios of random files, one of each or a few.
 const LEAST_JUDGED: u64 = 100_000;
@@ -19,66 +19,58 @@ const LEAST_JUDGED: u64 = 100_000;
 const WHOLE_FILES: u64 = 2_500;
 
 fn main() {
-    let run = Run::start(
+    let comparison = Comparison::start(
         "plain_and_finder_judge_the_same",
         "judgements of random scenarios",
     );
-    let seed = run.seed;
-    let mut random = Random::new(seed);
-    let mut comparison = Comparison {
-        run,
-        calls: 0,
-        patterns: Patterns::new(!seed),
+    let mut random = Random::new(comparison.seed());
+    let mut judgements = Judgements {
+        comparison,
         coverage: JudgeCoverage::default(),
     };
-    while comparison.coverage.judged() < LEAST_JUDGED {
-        mixed_rounds(&mut random, &mut comparison);
+    while judgements.coverage.judged() < LEAST_JUDGED {
+        mixed_rounds(&mut random, &mut judgements);
         for _ in 0..5 {
-            limit_round(&mut random, &mut comparison);
+            limit_round(&mut random, &mut judgements);
         }
         for _ in 0..500 {
-            causes_round(&mut random, &mut comparison);
+            causes_round(&mut random, &mut judgements);
         }
     }
-    let of_random_files = comparison.coverage.judged();
+    let of_random_files = judgements.coverage.judged();
     for _ in 0..WHOLE_FILES {
-        whole_file(&mut random, &mut comparison);
+        whole_file(&mut random, &mut judgements);
     }
 
-    let Comparison {
-        run,
-        calls,
+    let Judgements {
+        comparison,
         coverage,
-        ..
-    } = comparison;
-    let of_whole_files = coverage.judged() - of_random_files;
-    println!(
-        "{calls} calls compared, {of_random_files} judgements of random files and \
-         {of_whole_files} of {WHOLE_FILES} whole files, seed {seed}"
+    } = judgements;
+    let compared = format!(
+        "{} calls compared, {of_random_files} judgements of random files and \
+         {} of {WHOLE_FILES} whole files",
+        comparison.calls,
+        coverage.judged() - of_random_files
     );
-    print!("{coverage}");
-    run.end(&coverage.complaints());
+    comparison.end(&compared, &coverage.parts());
 }
 
 /// Judges every scenario of a small file, and the first that is none.
-fn whole_file(random: &mut Random, comparison: &mut Comparison) {
+fn whole_file(random: &mut Random, judgements: &mut Judgements) {
     let (abducibles, others) = (random.below(5), random.between(1, 4));
     let program = causes(random, abducibles, others);
     let query = query_of_heads(random, &program);
     let papers = Papers::new(&encode_file(&program), &encode_sheet(&query));
-    for scenario in 0..=papers.accepted().scenarios {
-        let Accepted {
-            dual_length,
-            model_length,
-            ..
-        } = *papers.accepted();
-        let spare = [random.below(2), random.below(2)];
-        comparison.compare(
-            &papers,
-            scenario,
-            dual_length + spare[0],
-            model_length + spare[1],
-        );
+    let Accepted {
+        dual_length,
+        model_length,
+        scenarios,
+        ..
+    } = *papers.accepted();
+    for scenario in 0..=scenarios {
+        let dual_lent = dual_length + random.below(2);
+        let model_lent = model_length + random.below(2);
+        judgements.compare(&papers, scenario, dual_lent, model_lent);
     }
 }
 
@@ -116,26 +108,34 @@ impl Papers {
     fn accepted(&self) -> &Accepted {
         self.accepted.as_ref().expect("accepted papers")
     }
+
+    fn told(&self, with: String) -> Told<'_> {
+        Told {
+            file: &self.file,
+            sheet: &self.sheet,
+            with,
+        }
+    }
 }
 
-struct Comparison {
-    run: Run,
-    calls: u64,
-    patterns: Patterns,
+struct Judgements {
+    comparison: Comparison,
     coverage: JudgeCoverage,
 }
 
-impl Examiner for Comparison {
+impl Examiner for Judgements {
     fn valid(&mut self, program: &Program, query: &Query) {
         let papers = Papers::new(&encode_file(program), &encode_sheet(query));
         if papers.accepted.is_none() {
-            self.fail("written papers are not accepted", &papers, 0);
+            let call = papers.told(String::new());
+            self.comparison
+                .fail("written papers are not accepted", &call);
         }
     }
 
     fn pair(&mut self, file: &[u8], sheet: &[u8]) {
         let papers = Papers::new(file, sheet);
-        let random = &mut self.patterns.random;
+        let random = &mut self.comparison.patterns.random;
         let Some(accepted) = &papers.accepted else {
             let scenario = random.pick(&[0, 1, u32::MAX]);
             let (dual, model) = (random.below(200), random.below(100));
@@ -177,47 +177,34 @@ fn a_length(random: &mut Random, due: usize) -> usize {
     }
 }
 
-impl Comparison {
+impl Judgements {
     /// Lends both finders buffers of so many bytes.
     fn compare(&mut self, papers: &Papers, scenario: u32, dual_lent: usize, model_lent: usize) {
-        self.calls += 1;
         let Papers { file, sheet, .. } = papers;
-        let mut expected_dual = self.patterns.buffer(dual_lent);
-        let mut expected_model = self.patterns.buffer(model_lent);
+        let patterns = &mut self.comparison.patterns;
+        let mut expected_dual = patterns.buffer(dual_lent);
+        let mut expected_model = patterns.buffer(model_lent);
         let mut found_dual = expected_dual.clone();
         let mut found_model = expected_model.clone();
-        let mut found: [u64; SLOTS] = self.patterns.words();
+        let mut found = patterns.words();
 
-        let answer = judge(
-            file,
-            sheet,
-            scenario,
-            expected_dual.part(),
-            expected_model.part(),
-        );
-        finder::judge_words(
-            file,
-            sheet,
-            scenario,
-            found_dual.part(),
-            found_model.part(),
-            &mut found,
-        );
-        let expected = words(&answer);
-        if found != expected {
-            let what = format!("the finders differ\nplain  {expected:?}\nfinder {found:?}");
-            self.fail(&what, papers, scenario);
-        }
-        if let Some(difference) = found_dual.difference(&expected_dual) {
-            let what = format!("the finders differ in the dual buffer {difference}");
-            self.fail(&what, papers, scenario);
-        }
-        if let Some(difference) = found_model.difference(&expected_model) {
-            let what = format!("the finders differ in the model buffer {difference}");
-            self.fail(&what, papers, scenario);
-        }
+        let (dual, model) = (expected_dual.part(), expected_model.part());
+        let answer = judge(file, sheet, scenario, dual, model);
+        let (dual, model) = (found_dual.part(), found_model.part());
+        finder::judge_words(file, sheet, scenario, dual, model, &mut found);
+
+        let call = papers.told(format!(
+            "scenario {scenario}, dual buffer of {dual_lent}, model buffer of {model_lent}"
+        ));
+        let Judgements {
+            comparison,
+            coverage,
+        } = self;
+        comparison.expect_words(&found, &words::of_judging(&answer), &call);
+        comparison.expect_items("dual buffer", &found_dual, &expected_dual, &call);
+        comparison.expect_items("model buffer", &found_model, &expected_model, &call);
         if let Some(accepted) = &papers.accepted {
-            self.coverage.count_lent(&Lent {
+            coverage.count_lent(&Lending {
                 dual: dual_lent,
                 dual_length: accepted.dual_length,
                 model: model_lent,
@@ -229,7 +216,7 @@ impl Comparison {
         match answer {
             Ok(judgement) => {
                 let accepted = papers.accepted();
-                self.coverage.count_judged(&Judged {
+                coverage.count_judged(&Judged {
                     program: accepted.program.clone(),
                     query: accepted.query.clone(),
                     scenario,
@@ -237,37 +224,7 @@ impl Comparison {
                     model: expected_model.part()[..accepted.model_length].to_vec(),
                 });
             }
-            Err(refusal) => self.coverage.count_refused(&refusal),
-        }
-    }
-
-    fn fail(&self, what: &str, papers: &Papers, scenario: u32) -> ! {
-        self.run.fail(&format!(
-            "{what}\ncall {}, scenario {scenario}\nfile  {}\nsheet {}",
-            self.calls,
-            hex(&papers.file),
-            hex(&papers.sheet)
-        ));
-    }
-}
-
-/// The eight words that include/finder.h documents for this answer.
-fn words(answer: &Result<Judgement, JudgeRefusal>) -> [u64; SLOTS] {
-    match answer {
-        Ok(judgement) => {
-            let Judgement { explains, rounds } = *judgement;
-            [0, 0, 0, explains.into(), rounds, 0, 0, 0]
-        }
-        Err(refusal) => {
-            let number = refusal.number().into();
-            let (paper, place) = match refusal {
-                JudgeRefusal::Papers(refusal) => match refusal.paper {
-                    Paper::File => (0, refusal.place),
-                    Paper::Sheet => (1, refusal.place),
-                },
-                _ => (0, 0),
-            };
-            [number, paper, place as u64, 0, 0, 0, 0, 0]
+            Err(refusal) => coverage.count_refused(&refusal),
         }
     }
 }

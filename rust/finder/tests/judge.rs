@@ -1,12 +1,12 @@
 //! Each slot of finder_judge, each byte of the buffers that it is lent, and the
 //! answer made of them, on hand-made papers.
 
+mod pairs;
 mod papers;
-mod sheets;
 
-use finder::{judge, judge_words, JudgeRefusal, Judgement, Paper, Refusal, SLOTS};
-use papers::{each_refused_file, FILE, FRONT, PATTERN};
-use sheets::{each_refused_sheet, SHEET};
+use finder::{judge, judge_words, JudgeRefusal, Judgement, Refusal, SLOTS};
+use pairs::{each_pair_with_refused_file, each_pair_with_refused_sheet, first_slots, SHEET};
+use papers::{FILE, FRONT, PATTERN};
 
 /// What the buffers hold before a call.
 const DUAL_BYTE: u8 = 0xC3;
@@ -67,22 +67,13 @@ fn check(
 }
 
 fn refused(lent: Lent, scenario: u32, refusal: JudgeRefusal) {
-    let words = match refusal {
-        JudgeRefusal::Papers(Refusal {
-            number,
-            paper,
-            place,
-        }) => {
-            let paper = match paper {
-                Paper::File => 0,
-                Paper::Sheet => 1,
-            };
-            [number.into(), paper, place as u64, 0, 0, 0, 0, 0]
-        }
-        JudgeRefusal::ShortDual => [11, 0, 0, 0, 0, 0, 0, 0],
-        JudgeRefusal::ShortModel => [12, 0, 0, 0, 0, 0, 0, 0],
-        JudgeRefusal::NoScenario => [13, 0, 0, 0, 0, 0, 0, 0],
+    let [number, paper, place] = match refusal {
+        JudgeRefusal::Papers(refusal) => first_slots(refusal),
+        JudgeRefusal::ShortDual => [11, 0, 0],
+        JudgeRefusal::ShortModel => [12, 0, 0],
+        JudgeRefusal::NoScenario => [13, 0, 0],
     };
+    let words = [number, paper, place, 0, 0, 0, 0, 0];
     check(lent, scenario, words, (&[], &[]), Err(refusal));
 }
 
@@ -158,29 +149,12 @@ fn a_scenario_without_rounds() {
 
 #[test]
 fn each_refusal_of_the_file() {
-    each_refused_file(|number, place, file| {
-        let refusal = Refusal {
-            number,
-            paper: Paper::File,
-            place,
-        };
-        // A refused file hides what the sheet is.
-        for sheet in [SHEET, FILE, &[]] {
-            paper_refused(file, sheet, refusal);
-        }
-    });
+    each_pair_with_refused_file(paper_refused);
 }
 
 #[test]
 fn each_refusal_of_the_sheet() {
-    each_refused_sheet(|number, place, sheet| {
-        let refusal = Refusal {
-            number,
-            paper: Paper::Sheet,
-            place,
-        };
-        paper_refused(FILE, sheet, refusal);
-    });
+    each_pair_with_refused_sheet(paper_refused);
 }
 
 #[test]

@@ -1,7 +1,8 @@
-//! The reference calls of document 01, and that judging and continuing tell the
-//! same of each scenario.
+//! The reference calls of document 01, save those with a list of one, which are
+//! in search.rs; and that judging and continuing tell the same of each scenario.
 
-use calls::searching::{OF_DESK, OF_NOT_P4};
+use calls::lent::{list_pattern, pattern};
+use calls::searching::OF_DESK;
 use calls::{file, sheet, Searching, JUDGINGS, SEARCHINGS};
 use finder::{
     continue_search, judge, write_dual, Continued, JudgeRefusal, Judgement, Paper, Record, Refusal,
@@ -13,16 +14,6 @@ const LONGEST_DUAL: usize = 52_488;
 const LONGEST_MODEL: usize = 513;
 
 const NO_QUERY: &[u8] = &[0x06, 0, 0, 0x7F, 0, 0];
-
-/// What a buffer holds before a call.
-fn pattern(length: usize) -> Vec<u8> {
-    (0..length).map(|place| 0xA0 + (place % 11) as u8).collect()
-}
-
-/// What a list holds before a fresh search: large numbers, none a scenario.
-fn list_pattern(length: usize) -> Vec<u32> {
-    (0..length as u32).map(|place| u32::MAX - place).collect()
-}
 
 fn judged(file: &[u8], sheet: &[u8], scenario: u32) -> Judgement {
     let (mut dual, mut model) = (pattern(LONGEST_DUAL), pattern(LONGEST_MODEL));
@@ -95,22 +86,6 @@ fn judging_each_scenario_tells_what_searching_does() {
         assert_eq!((whole.record, whole.rounds), (record, rounds));
         assert_eq!(list[..record.found as usize], *call.found);
     }
-}
-
-#[test]
-fn not_p4_with_a_list_of_one() {
-    let mut list = list_pattern(1);
-    let mut record = Record::FRESH;
-    let mut go_on = |allowance| {
-        let continued = continued(&OF_NOT_P4, &mut list, record, allowance);
-        record = continued.record;
-        assert_eq!((record.position, record.found), (3, 1));
-        (continued.tried, continued.state)
-    };
-    assert_eq!(go_on(9), (3, State::Full));
-    assert_eq!(go_on(5), (0, State::Full));
-    assert_eq!(go_on(0), (0, State::Going));
-    assert_eq!(list, [1]);
 }
 
 #[test]

@@ -1,11 +1,11 @@
 //! Each slot of finder_rest, and the answer made of them, on hand-made papers.
 
+mod pairs;
 mod papers;
-mod sheets;
 
 use finder::{rest, rest_words, Answer, Paper, Refusal, SLOTS};
-use papers::{each_refused_file, FILE, PATTERN};
-use sheets::{each_refused_sheet, SHEET};
+use pairs::{each_pair_with_refused_file, each_pair_with_refused_sheet, first_slots, SHEET};
+use papers::{FILE, PATTERN};
 
 fn words(file: &[u8], sheet: &[u8]) -> [u64; SLOTS] {
     let mut out = [PATTERN; SLOTS];
@@ -14,31 +14,19 @@ fn words(file: &[u8], sheet: &[u8]) -> [u64; SLOTS] {
 }
 
 /// Checks the eight words and the answer for a refused paper.
-fn refused(number: u8, paper: Paper, place: usize, file: &[u8], sheet: &[u8]) {
-    let (paper_word, bytes) = match paper {
-        Paper::File => (0, file),
-        Paper::Sheet => (1, sheet),
+fn refused(file: &[u8], sheet: &[u8], refusal: Refusal) {
+    let [number, paper, place] = first_slots(refusal);
+    let bytes = match refusal.paper {
+        Paper::File => file,
+        Paper::Sheet => sheet,
     };
-    let rest_length = (bytes.len() - place) as u64;
-    let expected = [
-        u64::from(number),
-        paper_word,
-        place as u64,
-        rest_length,
-        0,
-        0,
-        0,
-        0,
-    ];
+    let rest_of_paper = &bytes[refusal.place..];
+    let rest_length = rest_of_paper.len() as u64;
+    let expected = [number, paper, place, rest_length, 0, 0, 0, 0];
     assert_eq!(words(file, sheet), expected);
-    let refusal = Refusal {
-        number,
-        paper,
-        place,
-    };
     let expected = Answer {
         refusal: Some(refusal),
-        rest: &bytes[place..],
+        rest: rest_of_paper,
     };
     assert_eq!(rest(file, sheet), expected);
 }
@@ -54,16 +42,21 @@ fn accepted_papers_give_eight_zeros_and_the_end_of_the_sheet() {
 
 #[test]
 fn each_refusal_of_the_file() {
-    each_refused_file(|number, place, file| refused(number, Paper::File, place, file, SHEET));
+    each_pair_with_refused_file(refused);
 }
 
 #[test]
 fn each_refusal_of_the_sheet() {
-    each_refused_sheet(|number, place, sheet| refused(number, Paper::Sheet, place, FILE, sheet));
+    each_pair_with_refused_sheet(refused);
 }
 
 #[test]
 fn the_file_is_refused_before_the_sheet() {
-    refused(1, Paper::File, 0, &[], &[]);
-    refused(10, Paper::File, 24, &[FILE, &[0]].concat(), FILE);
+    let of_file = |number, place| Refusal {
+        number,
+        paper: Paper::File,
+        place,
+    };
+    refused(&[], &[], of_file(1, 0));
+    refused(&[FILE, &[0]].concat(), FILE, of_file(10, 24));
 }

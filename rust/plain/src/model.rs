@@ -10,6 +10,9 @@ use crate::scenario::{scenario_count, Valuation, Value};
 use crate::sets::JudgedSet;
 use crate::write::encode_dual;
 
+/// The bytes of the longest model.
+pub const LONGEST_MODEL: usize = 513;
+
 /// (Tj, Fj) for some j.
 #[derive(Clone, Debug, PartialEq, Eq)]
 pub struct Interpretation {

@@ -4,6 +4,7 @@
 
 mod hand;
 
+use calls::lent::pattern;
 use hand::{bytes, literals};
 use plain::{
     dual, encode_dual, encode_file, read_file, write_dual, Dual, Entry, Fold, Folding, Literal,
@@ -31,11 +32,6 @@ const ONE_ATOM: &str = "01 0001 01 02 0002 0001 03 0000";
 /// The same with two atoms: objective literals 0 to 3, falsum 4.
 const TWO_ATOMS: &str = "01 0001 01 02 0002 0002 03 0000";
 const END: &str = "7F 0000";
-
-/// What a buffer holds before a call.
-fn pattern(length: usize) -> Vec<u8> {
-    (0..length).map(|place| 0xA0 + (place % 11) as u8).collect()
-}
 
 /// Checks that the file has this dual and that it is written to any buffer
 /// that is long enough and to no other.

@@ -2,11 +2,9 @@
 
 use plain::{desk, encode_file, encode_sheet, Program, Query};
 
+use crate::example::{FILE, SHEET};
 use crate::hand::bytes;
 use crate::text::{program, query};
-
-const FILE: &str = "01 0001 01 02 0002 0002 03 0002 0001 04 0004 0000 0004 7F 0000";
-const SHEET: &str = "06 0002 0000 7F 0000";
 
 fn printed(program: &Program, query: &Query) -> String {
     let (file, sheet) = (encode_file(program), encode_sheet(query));

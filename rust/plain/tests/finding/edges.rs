@@ -1,9 +1,10 @@
 //! Programs as large as a file can hold.
 
+use calls::lent::list_pattern;
 use plain::{Atom, Literal, ObjectiveLiteral, Program, Query, Record, Rule, State};
+use random::Random;
 
-use crate::lent::{continued, judged, list_pattern};
-use crate::random::Random;
+use crate::lent::{continued, judged};
 
 const OBJECTIVE: u16 = 512;
 const RULES: usize = 1_024;

@@ -6,8 +6,9 @@ use plain::{
     minimal_explanations, scenario_count, stopping_point, ContinueRefusal, Continued, Program,
     Query, Record, Search, State,
 };
+use random::Random;
 
-use crate::random::{program, query, Random};
+use crate::programs::{program, query};
 
 const PROGRAMS: usize = 3_000;
 

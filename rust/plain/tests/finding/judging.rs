@@ -1,9 +1,11 @@
 //! Judging, by hand.
 
+use calls::lent::pattern;
 use plain::{contains_assumptions, digits, judge, Digit, JudgeRefusal, Number, Paper, Refusal};
 
+use crate::example::{FILE, SHEET};
 use crate::hand::bytes;
-use crate::lent::{judge_refused, judged, pattern};
+use crate::lent::{judge_refused, judged};
 use crate::text::{program, query};
 
 /// The model's bytes of the program in the scenario.
@@ -130,8 +132,6 @@ fn an_explanation_needs_falsum_false_and_each_query_literal() {
     }
 }
 
-const FILE: &str = "01 0001 01 02 0002 0002 03 0002 0001 04 0004 0000 0004 7F 0000";
-const SHEET: &str = "06 0002 0000 7F 0000";
 /// The bytes of the dual of the file: 08 and 09 with two numbers each, 08 for
 /// 1, 08 for falsum, the end.
 const DUAL_LENGTH: usize = 7 + 7 + 5 + 5 + 3;

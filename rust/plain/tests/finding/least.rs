@@ -6,8 +6,9 @@ use plain::{
     dual, next_false_by_dual, scenario_count, Dual, Form, Interpretation, JudgedSet, Literal,
     ObjectiveLiteral, Program, Valuation, Value,
 };
+use random::Random;
 
-use crate::random::{program, Random};
+use crate::programs::program;
 
 const PROGRAMS: usize = 600;
 

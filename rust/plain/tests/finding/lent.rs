@@ -1,19 +1,10 @@
 //! Calls with lent buffers, checked for what must stay in them.
 
+use calls::lent::pattern;
 use plain::{
     continue_search, dual, encode_dual, encode_file, encode_sheet, judge, ContinueRefusal,
     Continued, JudgeRefusal, Judgement, Program, Query, Record,
 };
-
-/// What a buffer holds before a call.
-pub fn pattern(length: usize) -> Vec<u8> {
-    (0..length).map(|place| 0xA0 + (place % 11) as u8).collect()
-}
-
-/// What a list holds before a fresh search: large numbers, none a scenario.
-pub fn list_pattern(length: usize) -> Vec<u32> {
-    (0..length as u32).map(|place| u32::MAX - place).collect()
-}
 
 /// Judges in buffers that are longer than they must be, and gives the answer
 /// and the model's bytes.

@@ -1,12 +1,15 @@
 //! Judging, searching and the desk.
 //!
-//! The first modules are what the others use: bytes by hand, programs as text,
-//! random programs, and calls that check what must stay in lent buffers.
+//! The first modules are what the others use: the example of document 01, bytes
+//! by hand, calls that check what must stay in lent buffers, random programs, and
+//! programs as text.
 
+#[path = "../example/mod.rs"]
+mod example;
 #[path = "../hand/mod.rs"]
 mod hand;
 mod lent;
-mod random;
+mod programs;
 mod text;
 
 mod desk;

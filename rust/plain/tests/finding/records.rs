@@ -10,8 +10,9 @@ use plain::{
     contains_assumptions, minimal_of, scenario_count, ContinueRefusal, Continued, Record, Search,
     State,
 };
+use random::Random;
 
-use crate::random::{program, query, Random};
+use crate::programs::{program, query};
 
 const PROGRAMS: usize = 2_000;
 const RECORDS: usize = 30;

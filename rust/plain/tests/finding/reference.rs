@@ -1,23 +1,16 @@
-//! The reference calls of document 01.
+//! The reference calls of document 01, save those with a list of one, which are
+//! in searching.rs.
 
-use calls::searching::OF_NOT_P4;
+use calls::lent::list_pattern;
 use calls::{Judging, Searching, JUDGINGS, SEARCHINGS};
 use plain::{
     encode_dual, encode_file, encode_sheet, judge, minimal_explanations, read_file, JudgeRefusal,
-    Number, Paper, Program, Query, Record, Refusal, State,
+    Number, Paper, Record, Refusal, State,
 };
 
 use crate::hand::bytes;
-use crate::lent::{continued, judge_refused, judged, list_pattern};
-use crate::text::{program, query};
-
-fn loaded(source: &calls::Source, text: &str) -> (Program, Query) {
-    let program = program(source.atoms, source.abducibles, source.rules);
-    let query = query(source.atoms, text);
-    assert_eq!(encode_file(&program), source.file());
-    assert_eq!(encode_sheet(&query), source.sheet(text));
-    (program, query)
-}
+use crate::lent::{continued, judge_refused, judged};
+use crate::text::{loaded, program, query};
 
 #[test]
 fn example_2_1_as_bytes() {
@@ -62,23 +55,6 @@ fn searching() {
         let found = continued.record.found as usize;
         assert_eq!(list[..found], *call.found, "{call:?}");
     }
-}
-
-#[test]
-fn not_p4_with_a_list_of_one() {
-    let (program, query) = loaded(&OF_NOT_P4.program, OF_NOT_P4.query);
-    let mut list = list_pattern(1);
-    let mut record = Record::FRESH;
-    let mut go_on = |allowance| {
-        let continued = continued(&program, &query, &mut list, record, allowance);
-        record = continued.record;
-        assert_eq!((record.position, record.found), (3, 1));
-        (continued.tried, continued.state)
-    };
-    assert_eq!(go_on(9), (3, State::Full));
-    assert_eq!(go_on(5), (0, State::Full));
-    assert_eq!(go_on(0), (0, State::Going));
-    assert_eq!(list, [1]);
 }
 
 #[test]

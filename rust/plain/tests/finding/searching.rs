@@ -1,5 +1,7 @@
 //! Continuing, by hand.
 
+use calls::continuing::{self, Continuing, DUAL_LENGTH, RESUMED};
+use calls::lent::list_pattern;
 use calls::searching::OF_NOT_P4;
 use plain::{
     encode_file, encode_sheet, judge, ContinueRefusal, Continued, Number, Paper, Program, Query,
@@ -7,23 +9,11 @@ use plain::{
 };
 
 use crate::hand::bytes;
-use crate::lent::{continue_refused, continued, list_pattern};
-use crate::text::{program, query};
+use crate::lent::{continue_refused, continued};
+use crate::text::{loaded, program, query};
 
-/// The bytes of its dual: 08 with one fold and 09 for p4; 08 with two folds, 09
-/// with one literal and 09 with two for q4; 08 for -p4, -q4 and falsum; the end.
-const P4_DUAL_LENGTH: usize = (7 + 7) + (9 + 7 + 9) + 3 * 5 + 3;
-
-/// Figure 1 of document 001: not p4 holds exactly where a or b is assumed, so
-/// in 1, 3, 4, 5 and 7 of 9 scenarios; 1 and 3 are minimal.
 fn not_p4() -> (Program, Query) {
-    let calls::Source {
-        atoms,
-        abducibles,
-        rules,
-    } = OF_NOT_P4.program;
-    let program = program(atoms, abducibles, rules);
-    (program, query(atoms, OF_NOT_P4.query))
+    loaded(&OF_NOT_P4.program, OF_NOT_P4.query)
 }
 
 fn at(position: u32, found: u32) -> Record {
@@ -53,14 +43,46 @@ fn go_on(list: &mut [u32], record: Record, allowance: u32) -> (u32, State, Recor
     (continued.tried, continued.state, continued.record)
 }
 
+/// Makes each of these calls and checks what it gives.
+fn each(calls: &[Continuing]) {
+    for call in calls {
+        let (position, found) = call.record;
+        let mut list = call.list.to_vec();
+        let given = go_on(&mut list, at(position, found), call.allowance);
+        let state = match call.state {
+            continuing::State::Going => State::Going,
+            continuing::State::Full => State::Full,
+            continuing::State::Ended => State::Ended,
+        };
+        let (position, found) = call.record_after();
+        assert_eq!(given, (call.tried, state, at(position, found)), "{call:?}");
+        assert_eq!(list, call.list_after(), "{call:?}");
+    }
+}
+
+#[test]
+fn not_p4_with_a_list_of_one() {
+    each(continuing::WITH_A_LIST_OF_ONE);
+}
+
 #[test]
 fn the_entries_found_are_added_in_order() {
-    let mut list = list_pattern(4);
-    let ended = (9, State::Ended, at(9, 2));
-    assert_eq!(go_on(&mut list, Record::FRESH, 100), ended);
-    assert_eq!(list, [1, 3, u32::MAX - 2, u32::MAX - 3]);
-    assert_eq!(go_on(&mut list, at(9, 2), 100), (0, State::Ended, at(9, 2)));
-    assert_eq!(go_on(&mut list, at(9, 2), 0), (0, State::Ended, at(9, 2)));
+    each(continuing::TO_THE_END);
+}
+
+#[test]
+fn the_states_about_the_stopping_point() {
+    each(continuing::ABOUT_THE_STOPPING_POINT);
+}
+
+#[test]
+fn a_list_of_length_0_stops_at_the_first_find() {
+    each(continuing::WITH_A_LIST_OF_NONE);
+}
+
+#[test]
+fn a_record_of_another_search_goes_by_its_list() {
+    each(continuing::OF_ANOTHER_SEARCH);
 }
 
 #[test]
@@ -86,46 +108,6 @@ fn a_pause_forgets_no_entry() {
         record = next;
     }
     assert_eq!(list[..2], [1, 3]);
-}
-
-#[test]
-fn an_allowance_that_just_reaches_the_stopping_point_is_going() {
-    let mut list = list_pattern(1);
-    assert_eq!(
-        go_on(&mut list, Record::FRESH, 3),
-        (3, State::Going, at(3, 1))
-    );
-    assert_eq!(go_on(&mut list, at(3, 1), 1), (0, State::Full, at(3, 1)));
-    let mut list = list_pattern(1);
-    assert_eq!(
-        go_on(&mut list, Record::FRESH, 4),
-        (3, State::Full, at(3, 1))
-    );
-    // The end is ended, however little was allowed.
-    let mut list = list_pattern(2);
-    assert_eq!(
-        go_on(&mut list, Record::FRESH, 9),
-        (9, State::Ended, at(9, 2))
-    );
-    // A list that is full does not stop the search before a further find.
-    assert_eq!(go_on(&mut list, at(4, 2), 2), (2, State::Going, at(6, 2)));
-    assert_eq!(go_on(&mut list, at(4, 2), 9), (5, State::Ended, at(9, 2)));
-}
-
-#[test]
-fn a_list_of_length_0_stops_at_the_first_find() {
-    for (allowance, tried, state) in [
-        (0, 0, State::Going),
-        (1, 1, State::Going),
-        (2, 1, State::Full),
-        (u32::MAX, 1, State::Full),
-    ] {
-        let next = (tried, state, at(tried, 0));
-        assert_eq!(go_on(&mut [], Record::FRESH, allowance), next);
-    }
-    // From 6 the next is 7, from 8 there is none.
-    assert_eq!(go_on(&mut [], at(6, 0), 9), (1, State::Full, at(7, 0)));
-    assert_eq!(go_on(&mut [], at(8, 0), 9), (1, State::Ended, at(9, 0)));
 }
 
 #[test]
@@ -161,72 +143,26 @@ fn without_abducibles_there_is_one_scenario() {
 }
 
 #[test]
-fn a_record_of_another_search_goes_by_its_list() {
-    // 1 is passed over, so 7, which contains it, counts; 4 and 5 contain 3.
-    let mut list = list_pattern(4);
-    assert_eq!(go_on(&mut list, at(2, 0), 99), (7, State::Ended, at(9, 2)));
-    assert_eq!(list[..2], [3, 7]);
-    // With one entry 7 is the stopping point.
-    let mut list = list_pattern(1);
-    assert_eq!(go_on(&mut list, at(2, 0), 99), (5, State::Full, at(7, 1)));
-    assert_eq!(list, [3]);
-    // Entries that explain nothing count as well: 2 is contained in 5 and 8.
-    let mut list = [2, 8, 8];
-    assert_eq!(go_on(&mut list, at(4, 1), 99), (5, State::Ended, at(9, 3)));
-    assert_eq!(list, [2, 4, 7]);
-    let mut list = [2];
-    assert_eq!(go_on(&mut list, at(3, 1), 99), (0, State::Full, at(3, 1)));
-    assert_eq!(go_on(&mut list, at(5, 1), 99), (2, State::Full, at(7, 1)));
-    // All scenarios contain the assumptions of 0: there are none.
-    let mut list = [0, 5];
-    assert_eq!(go_on(&mut list, at(1, 1), 99), (8, State::Ended, at(9, 1)));
-    assert_eq!(list, [0, 5]);
-    let mut list = [0];
-    assert_eq!(go_on(&mut list, at(1, 1), 99), (8, State::Ended, at(9, 1)));
-}
-
-#[test]
 fn a_spoilt_search_is_refused_14() {
+    let (spoilt, short) = (ContinueRefusal::SpoiltSearch, ContinueRefusal::ShortDual);
+    assert_eq!((spoilt.number(), short.number()), (14, 11));
     let (program, query) = not_p4();
     let (file, sheet) = (encode_file(&program), encode_sheet(&query));
-    let refused = |list: &[u32], record| {
-        let spoilt = ContinueRefusal::SpoiltSearch;
-        assert_eq!(spoilt.number(), 14);
-        let papers = (&file[..], &sheet[..]);
-        continue_refused(spoilt, papers, P4_DUAL_LENGTH, list, record);
+    let papers = (&file[..], &sheet[..]);
+    for resumed in RESUMED {
+        let list = resumed.list;
+        let record = at(resumed.record.0, resumed.record.1);
+        if resumed.is_spoilt {
+            continue_refused(spoilt, papers, DUAL_LENGTH, list, record);
+        } else {
+            let mut lent = list.to_vec();
+            continued(&program, &query, &mut lent, record, 0);
+            assert_eq!(lent, list);
+        }
         // 11 comes before it.
-        let short = ContinueRefusal::ShortDual;
-        assert_eq!(short.number(), 11);
-        continue_refused(short, papers, P4_DUAL_LENGTH - 1, list, record);
+        continue_refused(short, papers, DUAL_LENGTH - 1, list, record);
         continue_refused(short, papers, 0, list, record);
-    };
-    let accepted = |list: &[u32], record| {
-        let mut lent = list.to_vec();
-        continued(&program, &query, &mut lent, record, 0);
-        assert_eq!(lent, list);
-    };
-    // Position above 3^k.
-    accepted(&[], at(9, 0));
-    refused(&[], at(10, 0));
-    refused(&[], at(u32::MAX, 0));
-    // Found above list length.
-    accepted(&[1, 3], at(9, 2));
-    refused(&[1, 3], at(9, 3));
-    refused(&[1, 3], at(9, u32::MAX));
-    refused(&[], at(0, 1));
-    // Not strictly rising, within the first found.
-    refused(&[3, 1], at(9, 2));
-    refused(&[1, 1], at(9, 2));
-    refused(&[1, 5, 4], at(9, 3));
-    accepted(&[1, 5, 4], at(9, 2));
-    accepted(&[1, 1], at(9, 1));
-    // Not all below position.
-    accepted(&[1, 8], at(9, 2));
-    refused(&[1, 9], at(9, 2));
-    refused(&[1, 3], at(3, 2));
-    refused(&[1, 3], at(1, 1));
-    accepted(&[1, 3], at(2, 1));
-    accepted(&[1, 3], at(0, 0));
+    }
 }
 
 #[test]
@@ -258,7 +194,7 @@ fn a_search_that_keeps_its_judgements_answers_the_same() {
     let mut search = Search::keeping(program.clone(), query.clone());
     assert_eq!(search.explanations(), [1, 3, 4, 5, 7]);
     assert_eq!(search.minimal_explanations(), [1, 3]);
-    let mut dual = vec![0; P4_DUAL_LENGTH];
+    let mut dual = vec![0; DUAL_LENGTH];
     for position in 0..=9 {
         for allowance in [0, 1, 2, 9] {
             let (mut list, mut other) = (list_pattern(2), list_pattern(2));

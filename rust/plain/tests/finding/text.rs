@@ -1,6 +1,9 @@
 //! Programs and queries as document 01 writes them in its reference calls.
 
-use plain::{read_file, read_sheet, Atom, ObjectiveLiteral, Program, Query, Rule};
+use calls::Source;
+use plain::{
+    encode_file, encode_sheet, read_file, read_sheet, Atom, ObjectiveLiteral, Program, Query, Rule,
+};
 
 use crate::hand::literals as numbered;
 
@@ -16,6 +19,15 @@ pub fn query(atoms: &str, text: &str) -> Query {
     let count = atoms.split_whitespace().count() as u16;
     let sheet = calls::sheet(atoms, text);
     read_sheet(count, &sheet).expect("a sheet that is accepted")
+}
+
+/// The program and the query of a reference call.
+pub fn loaded(source: &Source, text: &str) -> (Program, Query) {
+    let program = program(source.atoms, source.abducibles, source.rules);
+    let query = query(source.atoms, text);
+    assert_eq!(encode_file(&program), source.file());
+    assert_eq!(encode_sheet(&query), source.sheet(text));
+    (program, query)
 }
 
 #[test]

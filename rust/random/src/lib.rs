@@ -1,5 +1,7 @@
 //! Random numbers that a seed repeats: SplitMix64.
 
+#![forbid(unsafe_code)]
+
 pub struct Random {
     state: u64,
 }
@@ -42,11 +44,18 @@ impl Random {
     pub fn pick<T: Copy>(&mut self, items: &[T]) -> T {
         items[self.below(items.len())]
     }
+
+    pub fn shuffle<T>(&mut self, items: &mut [T]) {
+        for last in (1..items.len()).rev() {
+            items.swap(self.between(0, last), last);
+        }
+    }
 }
 
 #[cfg(test)]
 mod tests {
     use super::Random;
+    use std::collections::HashSet;
 
     #[test]
     fn words_are_those_of_splitmix64() {
@@ -65,5 +74,19 @@ mod tests {
         }
         let reached: Vec<usize> = (0..10).filter(|&number| seen[number]).collect();
         assert_eq!(reached, [3, 4, 5]);
+    }
+
+    #[test]
+    fn shuffling_reaches_every_order_and_loses_nothing() {
+        let mut random = Random::new(2);
+        let mut orders = HashSet::new();
+        for _ in 0..1000 {
+            let mut items = ['a', 'b', 'c'];
+            random.shuffle(&mut items);
+            orders.insert(items);
+            items.sort_unstable();
+            assert_eq!(items, ['a', 'b', 'c']);
+        }
+        assert_eq!(orders.len(), 6);
     }
 }

@@ -1,44 +1,7 @@
-//! Random programs and queries that a seed repeats.
+//! Random programs and queries.
 
 use plain::{Atom, Literal, ObjectiveLiteral, Program, Query, Rule};
-
-/// SplitMix64.
-pub struct Random {
-    state: u64,
-}
-
-impl Random {
-    pub fn new(seed: u64) -> Self {
-        Random { state: seed }
-    }
-
-    pub fn word(&mut self) -> u64 {
-        self.state = self.state.wrapping_add(0x9E37_79B9_7F4A_7C15);
-        let mut word = self.state;
-        word = (word ^ (word >> 30)).wrapping_mul(0xBF58_476D_1CE4_E5B9);
-        word = (word ^ (word >> 27)).wrapping_mul(0x94D0_49BB_1331_11EB);
-        word ^ (word >> 31)
-    }
-
-    /// A number below `bound`, which is not 0.
-    pub fn below(&mut self, bound: usize) -> usize {
-        (self.word() % bound as u64) as usize
-    }
-
-    /// A number from `least` to `most`.
-    pub fn between(&mut self, least: usize, most: usize) -> usize {
-        least + self.below(most - least + 1)
-    }
-
-    /// True once in `times` calls.
-    pub fn one_in(&mut self, times: usize) -> bool {
-        self.below(times) == 0
-    }
-
-    pub fn pick<T: Copy>(&mut self, items: &[T]) -> T {
-        items[self.below(items.len())]
-    }
-}
+use random::Random;
 
 /// A program with so many abducibles, at most, and at least one atom besides.
 /// It has random rules and, more often than not, a ring of rules.
@@ -91,7 +54,7 @@ fn add_ring(random: &mut Random, program: &mut Program, heads: &[ObjectiveLitera
     }
 }
 
-/// A query; the more often it asks for heads of rules.
+/// A query, more often than not for the head of a rule.
 pub fn query(random: &mut Random, program: &Program) -> Query {
     let mut literals = literals(random, program, 1);
     if !program.rules.is_empty() && !random.one_in(4) {

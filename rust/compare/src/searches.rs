@@ -1,0 +1,249 @@
+//! Random searches: their papers, what each call is allowed and lent, and
+//! records that were not reached from a fresh search.
+
+use plain::{
+    dual, encode_dual, encode_file, encode_sheet, scenario_count, Program, Query, Record, Search,
+};
+use random::Random;
+
+use crate::causes::{causes, query_of_heads};
+
+/// Papers that are accepted.
+pub struct Papers {
+    pub file: Vec<u8>,
+    pub sheet: Vec<u8>,
+    pub search: Search,
+    pub dual_length: usize,
+    pub scenarios: u32,
+}
+
+impl Papers {
+    pub fn new(program: Program, query: Query) -> Self {
+        Papers {
+            file: encode_file(&program),
+            sheet: encode_sheet(&query),
+            dual_length: encode_dual(&dual(&program)).len(),
+            scenarios: scenario_count(&program),
+            search: Search::keeping(program, query),
+        }
+    }
+
+    /// Those of a file all of whose scenarios can be judged.
+    pub fn searchable(random: &mut Random) -> Self {
+        let abducibles = random.pick(&[0, 1, 1, 2, 2, 3, 3, 3, 4, 4, 4, 4, 4, 5, 5, 5]);
+        let more = usize::from(random.one_in(8)) + usize::from(random.one_in(64));
+        Papers::with_abducibles(random, abducibles + more)
+    }
+
+    /// Those of a file with more scenarios.
+    pub fn wide(random: &mut Random) -> Self {
+        let abducibles = random.pick(&[9, 10, 11, 12, 13, 14, 15, 16, 16]);
+        Papers::with_abducibles(random, abducibles)
+    }
+
+    fn with_abducibles(random: &mut Random, abducibles: usize) -> Self {
+        let others = random.between(1, 5);
+        let program = causes(random, abducibles, others);
+        let query = query_of_heads(random, &program);
+        Papers::new(program, query)
+    }
+
+    /// From 0 on; often about as many entries as there are to find.
+    pub fn a_list_length(&mut self, random: &mut Random) -> usize {
+        match random.below(8) {
+            0 => 0,
+            1 => 1,
+            2 => random.below(20),
+            3 => self.scenarios as usize + random.below(2),
+            4 => random.pick(&[63, 64, 65, 1_024, 5_000]),
+            _ if self.scenarios <= 243 => {
+                let minimal = self.search.minimal_explanations().len();
+                (minimal + random.below(3)).saturating_sub(1)
+            }
+            _ => random.below(5),
+        }
+    }
+
+    /// Anywhere, more often at either end.
+    pub fn a_position(&self, random: &mut Random) -> u32 {
+        let scenarios = self.scenarios;
+        match random.below(8) {
+            0 => 0,
+            1 => scenarios,
+            2 | 3 => scenarios - random.below(scenarios.min(150) as usize) as u32,
+            _ => random.below(scenarios as usize + 1) as u32,
+        }
+    }
+}
+
+/// How much the calls of a search are allowed.
+#[derive(Clone, Copy)]
+pub enum Pace {
+    Small,
+    /// About as many as can be settled at once.
+    About64,
+    /// About all that are left.
+    AboutRest,
+    Large,
+    /// Any of these, from call to call.
+    Mixed,
+}
+
+impl Pace {
+    pub const ALL: [Pace; 5] = [
+        Pace::Small,
+        Pace::About64,
+        Pace::AboutRest,
+        Pace::Large,
+        Pace::Mixed,
+    ];
+
+    /// An allowance where so many scenarios are left.
+    fn allowance(self, random: &mut Random, left: u32) -> u32 {
+        match self {
+            Pace::Small => random.below(6) as u32,
+            Pace::About64 => random.between(62, 67) as u32,
+            Pace::AboutRest => (left + random.below(3) as u32).saturating_sub(1),
+            Pace::Large => random.pick(&[128, 129, 1_000, 1 << 16, 1 << 31, u32::MAX, u32::MAX]),
+            Pace::Mixed => {
+                let pace = random.pick(&Pace::ALL[..4]);
+                pace.allowance(random, left)
+            }
+        }
+    }
+}
+
+/// What is allowed and lent in one call.
+pub struct Terms {
+    pub allowance: u32,
+    pub dual_lent: usize,
+}
+
+impl Terms {
+    pub fn new(random: &mut Random, pace: Pace, papers: &Papers, record: Record) -> Self {
+        let left = papers.scenarios.saturating_sub(record.position);
+        let allowance = pace.allowance(random, left);
+        Terms {
+            // Where more are left than can be gone through, less is allowed.
+            allowance: if left > 10_000 {
+                allowance.min(300)
+            } else {
+                allowance
+            },
+            dual_lent: match random.below(12) {
+                0 => random.pick(&[
+                    0,
+                    papers.dual_length / 2,
+                    papers.dual_length - 1,
+                    papers.dual_length - 1,
+                ]),
+                1 => papers.dual_length + random.between(1, 50),
+                _ => papers.dual_length,
+            },
+        }
+    }
+}
+
+/// A record of no search, and the entries at the start of its list.
+pub struct AnyRecord {
+    pub record: Record,
+    pub entries: Vec<u32>,
+    pub list_length: usize,
+}
+
+impl AnyRecord {
+    /// One that goes on with these papers or is spoilt.
+    pub fn new(random: &mut Random, papers: &Papers) -> Self {
+        let mut any = AnyRecord::sound(random, papers);
+        // Twice where a way to spoil it is to hide another.
+        for _ in 0..random.pick(&[0, 0, 0, 0, 1, 1, 2]) {
+            any.spoil(random, papers.scenarios);
+        }
+        any
+    }
+
+    fn sound(random: &mut Random, papers: &Papers) -> Self {
+        let position = papers.a_position(random);
+        let mut entries: Vec<u32> = (0..random.below(6).min(position as usize))
+            .map(|_| random.below(position as usize) as u32)
+            .collect();
+        entries.sort_unstable();
+        entries.dedup();
+        // The assumptions of 0, of which there are none, are in all scenarios.
+        if entries.first() == Some(&0) && !random.one_in(4) {
+            entries.remove(0);
+        }
+        AnyRecord {
+            record: Record {
+                position,
+                found: entries.len() as u32,
+            },
+            list_length: entries.len() + random.pick(&[0, 0, 1, 2, 3, 10]),
+            entries,
+        }
+    }
+
+    /// Spoils the record, or the entries listed, in one of the four ways where
+    /// it can.
+    fn spoil(&mut self, random: &mut Random, scenarios: u32) {
+        let AnyRecord {
+            record,
+            entries,
+            list_length,
+        } = self;
+        let any = random.below(6) as u32;
+        match random.below(4) {
+            0 => record.position = random.pick(&[scenarios + 1, scenarios + 2 + any, u32::MAX]),
+            1 => {
+                let above = *list_length as u32 + 1;
+                record.found = random.pick(&[above, above + any, u32::MAX]);
+            }
+            2 if entries.len() > 1 => {
+                let one = random.below(entries.len() - 1);
+                if random.one_in(2) {
+                    entries.swap(one, one + 1);
+                } else {
+                    entries[one + 1] = entries[one];
+                }
+            }
+            _ => {
+                let Some(last) = entries.last_mut() else {
+                    return;
+                };
+                if random.one_in(2) {
+                    let above = random.pick(&[0, 0, any, u32::MAX]);
+                    *last = record.position.saturating_add(above);
+                } else {
+                    record.position = *last - any.min(*last);
+                }
+            }
+        }
+    }
+}
+
+#[cfg(test)]
+mod tests {
+    use super::*;
+    use crate::search_coverage::Spoilt;
+
+    fn is_spoilt(papers: &Papers, any: &AnyRecord) -> bool {
+        let mut list = any.entries.clone();
+        list.resize(any.list_length, 0);
+        Spoilt::new(papers.scenarios, &list, any.record).is_spoilt()
+    }
+
+    #[test]
+    fn a_record_is_spoilt_only_by_being_spoilt() {
+        let mut random = Random::new(9);
+        let mut spoilt = 0;
+        for _ in 0..2_000 {
+            let papers = Papers::searchable(&mut random);
+            let mut any = AnyRecord::sound(&mut random, &papers);
+            assert!(!is_spoilt(&papers, &any));
+            any.spoil(&mut random, papers.scenarios);
+            spoilt += usize::from(is_spoilt(&papers, &any));
+        }
+        // Without entries there are but two ways.
+        assert!(spoilt > 1_000, "{spoilt} are spoilt");
+    }
+}
