@@ -11,16 +11,16 @@ use Rattle.papers.specs.Reading.{Papers}
 use Rattle.dual.specs.Answers.{dualOf}
 use Rattle.search.specs.declared.Continued.the-variants.{Reported}
 use Rattle.search.specs.declared.Report.{Report as Told}
-use Rattle.search.specs.Scenarios.{Problem, scenarios, minimals, stop, sumBelow, roundsFrom}
-use Rattle.search.specs.Continuing.{Report, reportOf, continue, stateBy}
-use Rattle.search.specs.Spoilt.{spoilt}
-use Rattle.search.specs.Calls.{answer, report}
+use Rattle.steps.specs.Scenarios.{Problem, scenarios, minimals, stop, sumBelow, roundsFrom}
+use Rattle.steps.specs.Continuing.{Report, reportOf, continue, stateBy}
+use Rattle.steps.specs.Spoilt.{spoilt}
+use Rattle.steps.specs.Calls.{answer, report}
 use Rattle.search.specs.Searching.{problemOf, callOf, toldReport, continueAnswer, listContinued}
-use Rattle.search.proofs.Stopping.{stop-le}
-use Rattle.search.proofs.Sums.{sum-rounds, sum-bound}
-use Rattle.search.proofs.Canonical.{recordAt, listAt, workAt, listAt-found, listAt-length, continue-at}
-use Rattle.search.proofs.Sound.{reached-unspoilt}
-use Rattle.search.proofs.Calling.{answer-made}
+use Rattle.steps.proofs.Stopping.{stop-le}
+use Rattle.steps.proofs.Sums.{sum-rounds, sum-bound}
+use Rattle.steps.proofs.Canonical.{recordAt, listAt, workAt, listAt-found, listAt-length, continue-at}
+use Rattle.steps.proofs.Sound.{reached-unspoilt}
+use Rattle.steps.proofs.Calling.{answer-made}
 use Rattle.desk.specs.declared.searching.Progress.{Progress}
 use Rattle.desk.specs.Search.{problemFor, Stands, GoneOn}
 use Rattle.desk.proofs.PaperLaws.{Small, problem-is}

@@ -7,7 +7,7 @@ use Rattle.papers.specs.Field.{numbers, sizeOf, contentOf, fewest, most, length
 use Rattle.papers.specs.Outcome.{accepted}
 use Rattle.papers.specs.Reading.{readEdition, readAtoms, readAbducibles, readRun, readEnd, ruleOf, readRules, readFile, readSheet, Papers, readPapers}
 use Rattle.model.specs.Computing.{modelling}
-use Rattle.search.specs.Computing.{computing}
+use Rattle.steps.specs.Computing.{computing}
 use Rattle.report.specs.Decimal.{digits, decimal}
 use Rattle.report.specs.Text.{spaced, line}
 use Rattle.report.specs.Lines.{stateWord, sign, assumption, assumptions, headingLine, foundLine, lastLine}

@@ -20,7 +20,7 @@ use Rattle.dual.specs.Answers.{dualOf}
 use Rattle.dual.proofs.Lengths.{dual-length}
 use Rattle.dual.proofs.Bound.{dual-bound}
 use Rattle.model.proofs.Rounds.{rounds-le}
-use Rattle.search.specs.Scenarios.{Problem, scenarios}
+use Rattle.steps.specs.Scenarios.{Problem, scenarios}
 use Rattle.search.specs.Searching.{problemOf}
 use Rattle.desk.specs.Search.{problemFor}
 

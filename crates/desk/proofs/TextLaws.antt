@@ -10,12 +10,12 @@ use lib.Dec.{T, ltb, ltb→lt}
 use Rattle.papers.specs.Valid.{All}
 use Rattle.papers.specs.Outcome.{Outcome, accepted}
 use Rattle.papers.specs.Reading.{Papers}
-use Rattle.search.specs.Scenarios.{Problem, scenarios, minimals, stop, sumBelow}
-use Rattle.search.specs.Spoilt.{allBelow}
+use Rattle.steps.specs.Scenarios.{Problem, scenarios, minimals, stop, sumBelow}
+use Rattle.steps.specs.Spoilt.{allBelow}
 use Rattle.search.specs.Searching.{problemOf}
-use Rattle.search.proofs.Tests.{left, right}
-use Rattle.search.proofs.Stopping.{stop-le, stop-count}
-use Rattle.search.proofs.Sound.{minimals-below}
+use Rattle.steps.proofs.Tests.{left, right}
+use Rattle.steps.proofs.Stopping.{stop-le, stop-count}
+use Rattle.steps.proofs.Sound.{minimals-below}
 use Rattle.report.specs.Text.{Put}
 use Rattle.report.specs.Lines.{headingLine, foundLine, lastLine}
 use Rattle.report.proofs.Putting.{put-two}

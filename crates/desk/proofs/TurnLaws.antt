@@ -7,11 +7,11 @@ use native.Mathlib.Omega.{arith}
 use borrow.Author.Tests.{eqb-true, eqb-false, ltb-true, ltb-false, eq-eqb, ne-eqb}
 use lib.Dec.{eqb, ltb}
 use lib.ListN.{length, take}
-use Rattle.search.specs.declared.Record.{Record}
-use Rattle.search.specs.declared.State.the-variants.{Going, Full, Ended}
-use Rattle.search.specs.Scenarios.{Problem, scenarios, minimals, stop, sumBelow}
-use Rattle.search.specs.Continuing.{fresh, stateBy}
-use Rattle.search.proofs.Stopping.{stop-le}
+use Rattle.steps.specs.declared.Record.{Record}
+use Rattle.steps.specs.declared.State.the-variants.{Going, Full, Ended}
+use Rattle.steps.specs.Scenarios.{Problem, scenarios, minimals, stop, sumBelow}
+use Rattle.steps.specs.Continuing.{fresh, stateBy}
+use Rattle.steps.proofs.Stopping.{stop-le}
 use Rattle.desk.specs.declared.searching.Progress.{Progress}
 use Rattle.desk.specs.Search.{isGoing, Stands, GoneOn, lastState, Finished}
 

@@ -4,7 +4,7 @@ use Prim.Native.Nat.{ℕ}
 use lib.ListN.{length}
 use Rattle.papers.specs.Outcome.{Outcome, accepted, refused}
 use Rattle.papers.specs.Reading.{Papers}
-use Rattle.search.specs.Scenarios.{scenarios, minimals, stop, sumBelow}
+use Rattle.steps.specs.Scenarios.{scenarios, minimals, stop, sumBelow}
 use Rattle.search.specs.Searching.{problemOf}
 use Rattle.report.specs.Lines.{headingLine, foundLine, lastLine, refusedLine}
 use Rattle.desk.specs.Search.{lastState}

@@ -9,10 +9,10 @@ use Rattle.papers.specs.declared.Contents.{Contents}
 use Rattle.papers.specs.Outcome.{Outcome, accepted, refused}
 use Rattle.papers.specs.Reading.{Papers}
 use Rattle.papers.specs.Answers.{contentsOf}
-use Rattle.search.specs.declared.State.{State}
-use Rattle.search.specs.declared.State.the-variants.{Going, Full, Ended}
-use Rattle.search.specs.Scenarios.{Problem, scenarios, minimals, stop, sumBelow}
-use Rattle.search.specs.Continuing.{stateBy}
+use Rattle.steps.specs.declared.State.{State}
+use Rattle.steps.specs.declared.State.the-variants.{Going, Full, Ended}
+use Rattle.steps.specs.Scenarios.{Problem, scenarios, minimals, stop, sumBelow}
+use Rattle.steps.specs.Continuing.{stateBy}
 use Rattle.search.specs.Searching.{problemOf}
 use Rattle.desk.specs.declared.searching.Progress.{Progress}
 

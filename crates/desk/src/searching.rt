@@ -5,8 +5,8 @@ ghost use lib.ListN.{length};
 ghost use Rattle.papers.specs.Reading.{readPapers};
 ghost use Rattle.desk.specs.Search.{Accepted, problemFor, isGoing, Stands, GoneOn, Finished};
 use search::Continued;
-use search::Record;
-use search::State;
+use steps::Record;
+use steps::State;
 
 // The record that the calls reached, the sums over them, and the last one's state.
 pub(crate) struct Progress {

@@ -13,10 +13,10 @@ use Rattle.dual.specs.declared.DualWritten.{DualWritten}
 use Rattle.dual.specs.declared.DualWritten.the-variants.{Length, Short, Refused}
 use Rattle.judging.specs.declared.Judged.{Judged}
 use Rattle.judging.specs.declared.Judged.the-variants as judging
-use Rattle.search.specs.declared.Record.{Record}
+use Rattle.steps.specs.declared.Record.{Record}
 use Rattle.search.specs.declared.Report.{Report}
-use Rattle.search.specs.declared.State.{State}
-use Rattle.search.specs.declared.State.the-variants.{Going, Full, Ended}
+use Rattle.steps.specs.declared.State.{State}
+use Rattle.steps.specs.declared.State.the-variants.{Going, Full, Ended}
 use Rattle.search.specs.declared.Continued.{Continued}
 use Rattle.search.specs.declared.Continued.the-variants as continuing
 

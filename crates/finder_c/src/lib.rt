@@ -5,7 +5,7 @@ ghost use lib.ListN.{length};
 ghost use Rattle.papers.specs.Reading.{readFile, readPapers};
 ghost use Rattle.dual.specs.Answers.{dualAnswer, dualAfter};
 ghost use Rattle.judging.specs.Judging.{judgeAnswer, dualJudged, modelJudged};
-ghost use Rattle.search.specs.declared.Record.{Record};
+ghost use Rattle.steps.specs.declared.Record.{Record};
 ghost use Rattle.search.specs.Searching.{continueAnswer, dualContinued, listContinued};
 ghost use Rattle.finder_c.specs.Words.{flagNumber, paperNumber, stateNumber, recordOf, refusalWords, restWords, dualWords, judgedWords, reportWords, continuedWords};
 use dual::DualWritten;
@@ -14,9 +14,9 @@ use papers::Paper;
 use papers::PapersRead;
 use papers::Refusal;
 use search::Continued;
-use search::Record;
 use search::Report;
-use search::State;
+use steps::Record;
+use steps::State;
 
 fn paper_number(paper: Paper) -> u64
     ensures { λ r. ⌜ r ≡ paperNumber paper ⌝ }

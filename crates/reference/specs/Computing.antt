@@ -8,7 +8,7 @@ use Rattle.papers.specs.Encoding.{encodeNumbers, encodeField, encodeRun, encode
 use Rattle.dual.specs.Table.{foldsFrom, foldsOf, isEmpty, isFact, hasEntry, foldField, entry, entriesFrom, dual}
 use Rattle.dual.specs.Encoding.{encodeFields, encodeDual}
 use Rattle.model.specs.Computing.{modelling, falsity}
-use Rattle.search.specs.Computing.{computing as searching}
+use Rattle.steps.specs.Computing.{computing as searching}
 
 -- A file and its fields, as they are written,
 unfoldable encoding : Unit {0}

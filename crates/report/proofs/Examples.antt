@@ -2,7 +2,7 @@
 use mathlib.Core.Path.{_≡_, refl}
 use mathlib.Core.List.{[], _∷_}
 use Rattle.papers.specs.declared.Paper.the-variants.{Sheet}
-use Rattle.search.specs.declared.State.the-variants.{Ended}
+use Rattle.steps.specs.declared.State.the-variants.{Ended}
 use Rattle.report.specs.Decimal.{digits, decimal}
 use Rattle.report.specs.Text.{spaced, line}
 use Rattle.report.specs.Lines.{stateWord, paperWord, sign, assumption, assumptions, headingLine, foundLine, lastLine, refusedLine}

@@ -6,8 +6,8 @@ use lib.Dec.{eqb}
 use Rattle.papers.specs.declared.Paper.{Paper}
 use Rattle.papers.specs.declared.Paper.the-variants.{File, Sheet}
 use Rattle.papers.specs.declared.Refusal.{Refusal}
-use Rattle.search.specs.declared.State.{State}
-use Rattle.search.specs.declared.State.the-variants.{Going, Full, Ended}
+use Rattle.steps.specs.declared.State.{State}
+use Rattle.steps.specs.declared.State.the-variants.{Going, Full, Ended}
 use Rattle.report.specs.Decimal.{decimal}
 use Rattle.report.specs.Text.{line}
 

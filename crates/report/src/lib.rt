@@ -15,7 +15,7 @@ ghost use Rattle.report.specs.Lines.{sign as signOf};
 use fields::field::number_at;
 use papers::Paper;
 use papers::Refusal;
-use search::State;
+use steps::State;
 use text::put_byte;
 use text::put_number;
 use text::put_text;

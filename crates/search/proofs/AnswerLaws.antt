@@ -16,10 +16,11 @@ use Rattle.dual.proofs.BothPapers.{papersIn, scenarios-are}
 use Rattle.search.specs.declared.Report.{Report as Told}
 use Rattle.search.specs.declared.Continued.{Continued}
 use Rattle.search.specs.declared.Continued.the-variants.{Reported, ShortDual, SpoiltSearch, Refused}
-use Rattle.search.specs.Continuing.{Record, continue}
-use Rattle.search.specs.Spoilt.{spoiltBy, spoilt}
+use Rattle.steps.specs.declared.Record.{Record}
+use Rattle.steps.specs.Continuing.{continue}
+use Rattle.steps.specs.Spoilt.{spoiltBy, spoilt}
 use Rattle.search.specs.Searching.{problemOf, callOf, toldReport, continueAnswer, dualContinued, listContinued}
-use Rattle.search.proofs.Calling.{answer-refused, answer-spoilt, answer-made}
+use Rattle.steps.proofs.Calling.{answer-refused, answer-spoilt, answer-made}
 
 -- ---- the papers
 

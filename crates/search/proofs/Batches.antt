@@ -5,12 +5,12 @@ use mathlib.Core.List.{List}
 use mathlib.Core.Logic.{_⊎_, inl, inr}
 use Prim.Native.Nat.{ℕ, _+_, _-_, _<_, _≤_}
 use native.Mathlib.Omega.{arith}
-use Rattle.search.specs.declared.stepping.Progress.{Progress}
-use Rattle.search.specs.Scenarios.{Problem, scenarios}
-use Rattle.search.specs.Continuing.{steps}
-use Rattle.search.specs.Stepping.{workOf, Kept, LanesTried, InLanes, Tried}
-use Rattle.search.proofs.Steps.{step-end}
-use Rattle.search.proofs.Runs.{steps-zero, steps-add, steps-still, steps-short}
+use Rattle.steps.specs.declared.stepping.Progress.{Progress}
+use Rattle.steps.specs.Scenarios.{Problem, scenarios}
+use Rattle.steps.specs.Continuing.{steps}
+use Rattle.steps.specs.Stepping.{workOf, Kept, LanesTried, InLanes, Tried}
+use Rattle.steps.proofs.Steps.{step-end}
+use Rattle.steps.proofs.Runs.{steps-zero, steps-add, steps-still, steps-short}
 
 -- The lanes of a problem's scenarios.
 pub tried-lanes : {P : Problem} {k total explained : ℕ} {rounds : List ℕ} {count : ℕ} {s : Progress} {l : List ℕ} {s′ : Progress} {l′ : List ℕ}

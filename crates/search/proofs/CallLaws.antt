@@ -5,13 +5,14 @@ use mathlib.Core.Bool.{false}
 use mathlib.Core.List.{List}
 use Prim.Native.Nat.{ℕ}
 use native.Mathlib.Omega.{arith}
-use Rattle.search.specs.declared.stepping.Progress.{Progress}
-use Rattle.search.specs.Scenarios.{Problem, scenarios}
-use Rattle.search.specs.Continuing.{Record, Work, steps, begun, reportOf, continue}
-use Rattle.search.specs.Spoilt.{spoiltBy}
-use Rattle.search.specs.Stepping.{workOf, Kept}
+use Rattle.steps.specs.declared.stepping.Progress.{Progress}
+use Rattle.steps.specs.Scenarios.{Problem, scenarios}
+use Rattle.steps.specs.declared.Record.{Record}
+use Rattle.steps.specs.Continuing.{Work, steps, begun, reportOf, continue}
+use Rattle.steps.specs.Spoilt.{spoiltBy}
+use Rattle.steps.specs.Stepping.{workOf, Kept}
 use Rattle.search.specs.Searching.{toldReport, reportBy}
-use Rattle.search.proofs.Sound.{unspoilt-bounded}
+use Rattle.steps.proofs.Sound.{unspoilt-bounded}
 
 -- Nothing tried yet.
 abbrev pub untried : Record → Progress

@@ -1,25 +1,6 @@
--- The laws of the search, and the pause theorem (`Pause`).
-pub mod Tests
-pub mod PartLaws
-pub mod Minimality
-pub mod Minimals
-pub mod Stopping
-pub mod Sums
-pub mod Steps
-pub mod Runs
-pub mod General
-pub mod Canonical
-pub mod Sound
-pub mod Keeping
-pub mod Calling
-pub mod Pause
-pub mod Reached
-pub mod Walking
-pub mod Decisions
-pub mod Trying
+-- Calls over a file and a sheet, and the pause theorem of `continue_search` (`SearchPause`).
 pub mod Batches
 pub mod JudgedLanes
 pub mod CallLaws
 pub mod AnswerLaws
 pub mod SearchPause
-pub mod Examples

@@ -11,13 +11,14 @@ use Rattle.dual.specs.Answers.{dualOf, filled}
 use Rattle.model.proofs.Rounds.{rounds-le}
 use Rattle.literals.specs.Numbering.{judged}
 use Rattle.search.specs.declared.Continued.the-variants.{ShortDual, SpoiltSearch}
-use Rattle.search.specs.Continuing.{Record, fresh}
-use Rattle.search.specs.Calls.{Call, Answer, refusal, report, answer, recordAfter, listAfter, first, calls}
-use Rattle.search.specs.Demand.{isRefused, isRefusal, Demand}
+use Rattle.steps.specs.declared.Record.{Record}
+use Rattle.steps.specs.Continuing.{fresh}
+use Rattle.steps.specs.Calls.{Call, Answer, refusal, report, answer, recordAfter, listAfter, first, calls}
+use Rattle.steps.specs.Demand.{isRefused, isRefusal, Demand}
 use Rattle.search.specs.Searching.{problemOf, continuedBy, bufferBy, continuedNumber, recordContinued}
 use Rattle.search.specs.SearchCalls.{Lent, made, firstMade, searchCalls, refusedMade, callFor, answered, answerFor, calledBy}
 use Rattle.search.specs.SearchCalls.{numberOf, dualLeft, numberFor, dualFor, SearchDemand, SearchClaim}
-use Rattle.search.proofs.Pause.{pause}
+use Rattle.steps.proofs.Pause.{pause}
 
 -- ---- one call
 

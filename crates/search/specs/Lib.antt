@@ -1,10 +1,3 @@
--- Document 01, "The search": minimal explanations, continuing, test 14, and lists of calls.
-pub mod Scenarios
-pub mod Continuing
-pub mod Spoilt
-pub mod Calls
-pub mod Demand
-pub mod Stepping
+-- Document 01, "The search": continuing over a file and a sheet, and lists of such calls.
 pub mod Searching
 pub mod SearchCalls
-pub mod Computing

@@ -11,9 +11,10 @@ use Rattle.papers.specs.Reading.{Papers, readPapers}
 use Rattle.dual.specs.Answers.{dualOf, filled}
 use Rattle.search.specs.declared.Continued.{Continued}
 use Rattle.search.specs.declared.Continued.the-variants.{Reported, ShortDual, SpoiltSearch, Refused}
-use Rattle.search.specs.Continuing.{Record, fresh}
-use Rattle.search.specs.Calls.{Call, Answer, refusal, report, Called, roundsBy}
-use Rattle.search.specs.Demand.{Demand}
+use Rattle.steps.specs.declared.Record.{Record}
+use Rattle.steps.specs.Continuing.{fresh}
+use Rattle.steps.specs.Calls.{Call, Answer, refusal, report, Called, roundsBy}
+use Rattle.steps.specs.Demand.{Demand}
 use Rattle.search.specs.Searching.{problemOf, callOf, continueAnswer, dualContinued, listContinued, recordContinued, continuedNumber}
 
 -- "Allowance and dual buffer are each call's own."

@@ -1,15 +1,12 @@
 // The search for minimal explanations.
-mod parts;
 mod searching;
-mod spoilt;
-mod stepping;
 
 ghost use mathlib.Core.Path.{_≡_};
 ghost use lib.ListN.{length};
 ghost use Rattle.papers.specs.declared.PapersRead.{PapersRead};
 ghost use Rattle.papers.specs.Reading.{readPapers};
 ghost use Rattle.papers.specs.Answers.{papersAnswer};
-ghost use Rattle.search.specs.Continuing.{fresh};
+ghost use Rattle.steps.specs.Continuing.{fresh};
 ghost use Rattle.search.specs.Searching.{continueAnswer, dualContinued, listContinued};
 use dual::DualWritten;
 use lanes::digits::scenario_count;
@@ -17,19 +14,9 @@ use papers::Contents;
 use papers::PapersRead;
 use papers::Refusal;
 use searching::search_accepted;
-use spoilt::is_spoilt;
-
-// A search: its next scenario, and how many of the list's entries are found ones.
-pub struct Record {
-    pub position: u32,
-    pub found: u32,
-}
-
-pub enum State {
-    Ended,
-    Full,
-    Going,
-}
+use steps::Record;
+use steps::State;
+use steps::spoilt::is_spoilt;
 
 // What a call reports: the new record, the scenarios tried and their rounds, and the state.
 pub struct Report {

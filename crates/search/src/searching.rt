@@ -1,16 +1,16 @@
 // A call over accepted papers: up to 64 scenarios judged at a time, and tried one by one.
 ghost use mathlib.Core.Path.{_≡_};
 ghost use Prim.Native.Nat.{_≤_};
-ghost use Rattle.search.specs.Continuing.{stateBy, continue};
-ghost use Rattle.search.specs.Stepping.{Batch, Tried};
+ghost use Rattle.steps.specs.Continuing.{stateBy, continue};
+ghost use Rattle.steps.specs.Stepping.{Batch, Tried};
 ghost use Rattle.search.specs.Searching.{problemIn, toldReport, reportBy, Ready, Passed};
-use crate::Record;
 use crate::Report;
-use crate::State;
-use crate::stepping::Progress;
-use crate::stepping::try_lanes;
 use lanes::verdicts::judge_lanes;
 use papers::Contents;
+use steps::Record;
+use steps::State;
+use steps::stepping::Progress;
+use steps::stepping::try_lanes;
 
 // How many scenarios to judge next.
 fn batch_size(tried: u32, allowance: u32, position: u32, total: u32) -> u32

@@ -17,7 +17,7 @@ use Rattle.dual.proofs.BothPapers.{other-told, dual-fits, dual-short, dual-stay
 use Rattle.dual.proofs.FileFacts.{program-valid}
 use Rattle.lanes.specs.FalseWords.{DualStarts}
 use Rattle.lanes.proofs.DroppedLaws.{filled-starts}
-use Rattle.search.specs.Spoilt.{spoilt}
+use Rattle.steps.specs.Spoilt.{spoilt}
 use Rattle.search.specs.Searching.{problemOf}
 use Rattle.search.proofs.AnswerLaws.{spoilt-is, answers-short, answers-spoilt, answers-report}
 use Rattle.search.proofs.continue_accepted.Statement.{statement}

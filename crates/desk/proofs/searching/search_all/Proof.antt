@@ -8,7 +8,7 @@ use borrow.Author.Needs.{needs}
 use denote.Ref.{now}
 use lib.ListN.{length}
 use Rattle.papers.specs.Reading.{readPapers}
-use Rattle.search.specs.Scenarios.{stop}
+use Rattle.steps.specs.Scenarios.{stop}
 use Rattle.desk.specs.Search.{problemFor, Stands, GoneOn, Finished}
 use Rattle.desk.proofs.TurnLaws.{left, Turned, turned, begins}
 use Rattle.desk.proofs.searching.search_all.Statement.{statement}

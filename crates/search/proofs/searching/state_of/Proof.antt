@@ -2,7 +2,7 @@
 -- Assumes nothing.
 use native.Mathlib.Omega.{arith}
 use borrow.Author.Tests.{eq-eqb, ne-eqb, lt-ltb, le-ltb}
-use Rattle.search.specs.Continuing.{stateBy}
+use Rattle.steps.specs.Continuing.{stateBy}
 use Rattle.search.proofs.searching.state_of.Statement.{statement}
 use Rattle.search.proofs.searching.state_of.Tie as tie
 
