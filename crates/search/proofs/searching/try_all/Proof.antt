@@ -28,32 +28,39 @@ add-aim c = search needs
 
 try-batch-requires : tie.Need-try-batch-requires Inv-loop μ-loop
 try-batch-requires c κs =
-    let ready = c .before .before .before .before .before .before .before .before .before .pre .0 in
-    let inv = c .before .before .before .loop .inv in
+    let turn = c .before .before .before in
+    let inv = turn .loop .inv in
+    let ready = turn .before .before .before .before .before .before .pre .0 in
     (record { prepared = ready .prepared; scenarios = ready .scenarios; kept = inv .1 .advance .kept; room = omega arith }, inv .0 .lanes)
 
 same-length : tie.Need-same-length Inv-loop μ-loop
-same-length c = c .before .before .before .before .try-batch .ensures .advance .size ∙ c .before .before .before .before .before .before .before .before .loop .inv .1 .advance .size
+same-length c = let tried = c .before .before .before .before in tried .try-batch .ensures .advance .size ∙ tried .before .before .before .before .loop .inv .1 .advance .size
 
 returns : tie.Need-returns Inv-loop μ-loop
 returns c =
-    let inv = c .before .before .before .before .before .before .before .before .loop .inv in
-    tried-short (tried-then (inv .1) refl (c .before .before .before .before .try-batch .ensures)) (inv .0 .allowed) (omega arith)
+    let tried = c .before .before .before .before in
+    let inv = tried .before .before .before .before .loop .inv in
+    tried-short (tried-then (inv .1) refl (tried .try-batch .ensures)) (inv .0 .allowed) (omega arith)
 
 batch-size-requires-2 : tie.Need-batch-size-requires-2 Inv-loop μ-loop
-batch-size-requires-2 c κs = (c .before .before .before .before .before .before .before .before .loop .inv .0 .allowed, c .before .before .before .before .try-batch .ensures .advance .kept .within)
+batch-size-requires-2 c κs = let tried = c .before .before .before .before in (tried .before .before .before .before .loop .inv .0 .allowed, tried .try-batch .ensures .advance .kept .within)
 
 loop-less : tie.Need-loop-less Inv-loop μ-loop
-loop-less c = let more = c .before .before .before .before .before .before .before .before .loop-test .taken in let inv = c .before .before .before .before .before .before .before .before .before .loop .inv .0 in omega arith
+loop-less c =
+    let turn = c .before .before .before .before .before .before .before .before in
+    let more = turn .loop-test .taken in
+    let inv = turn .before .loop .inv .0 in
+    omega arith
 
 loop-again : tie.Need-loop-again Inv-loop μ-loop
 loop-again c =
-    let inv = c .before .before .before .before .before .before .before .before .before .loop .inv in
-    let one = c .before .before .before .before .before .try-batch .ensures in
-    let most = one .advance .most in
+    let tried = c .before .before .before .before .before in
+    let batch = tried .try-batch in
+    let loop = tried .before .before .before .before .loop in
+    let most = batch .ensures .advance .most in
     let all = c .before .if1 .left in
-    let e : c .before .before .before .before .before .try-batch .result .tried ≡ c .before .before .before .before .before .before .before .before .before .loop .reached .tried + c .before .before .before .before .before .before .before .before .before .loop .count = omega arith in
-    (rw e (c .batch-size2 .ensures), tried-then (inv .1) e one)
+    let e : batch .result .tried ≡ loop .reached .tried + loop .count = omega arith in
+    (rw e (c .batch-size2 .ensures), tried-then (loop .inv .1) e (batch .ensures))
 
 same-length-2 : tie.Need-same-length-2 Inv-loop μ-loop
 same-length-2 c = c .before .loop .inv .1 .advance .size

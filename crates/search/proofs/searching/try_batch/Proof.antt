@@ -21,17 +21,19 @@ judge-lanes-requires c κs = search needs
 
 try-lanes-requires : tie.Need-try-lanes-requires
 try-lanes-requires c κs =
-    let a = c .before .before .before .before .before .before .before .before .before .args in
-    let ready = c .before .before .before .before .before .before .before .before .before .pre .0 in
+    let judged = c .before .before .before in
+    let start = judged .before .before .before .before .before .before in
+    let a = start .args in
+    let ready = start .pre .0 in
     let answer = ready .prepared .walked .answer in
     let same = atoms-are (now (a .file)) (a .contents) answer in
     let few = few-atoms (now (a .file)) (a .contents) answer in
     record {
       scenarios = ready .scenarios ∙ ap (λ (n : ℕ). 3 ^ n) (abducibles-are (now (a .file)) (a .contents) answer);
       kept = ready .kept;
-      lanes = c .before .before .before .before .before .before .before .before .before .pre .1;
+      lanes = start .pre .1;
       room = ready .room;
-      cost = judged-cost (programIn (now (a .file))) (numbers (now (a .query))) (c .before .before .before .judge-lanes .ensures) (omega arith);
+      cost = judged-cost (programIn (now (a .file))) (numbers (now (a .query))) (judged .judge-lanes .ensures) (omega arith);
     }
 
 same-length : tie.Need-same-length
@@ -39,10 +41,12 @@ same-length c = search needs
 
 returns : tie.Need-returns
 returns c =
-    let a = c .before .before .before .before .before .before .before .before .before .before .before .before .args in
-    let answer = c .before .before .before .before .before .before .before .before .before .before .before .before .pre .0 .prepared .walked .answer in
+    let judged = c .before .before .before .before .before .before in
+    let start = judged .before .before .before .before .before .before in
+    let a = start .args in
+    let answer = start .pre .0 .prepared .walked .answer in
     tried-lanes (c .before .before .try-lanes .ensures)
-    (judged-lanes (programIn (now (a .file))) (numbers (now (a .query))) (c .before .before .before .before .before .before .judge-lanes .ensures) (abducibles-are (now (a .file)) (a .contents) answer))
+    (judged-lanes (programIn (now (a .file))) (numbers (now (a .query))) (judged .judge-lanes .ensures) (abducibles-are (now (a .file)) (a .contents) answer))
 
 pub try-batch-spec : {M : Type 1} → statement M
 try-batch-spec =

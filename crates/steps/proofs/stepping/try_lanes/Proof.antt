@@ -38,15 +38,17 @@ try-lane-requires c κs =
 
 same-length : tie.Need-same-length Inv-loop μ-loop
 same-length c =
-    c .before .before .before .before .try-lane .ensures .advance .size
-    ∙ c .before .before .before .before .before .before .before .before .before .loop .inv .2 .advance .size
+    let tried = c .before .before .before .before in
+    tried .try-lane .ensures .advance .size ∙ tried .before .before .before .before .before .loop .inv .2 .advance .size
 
 returns : tie.Need-returns Inv-loop μ-loop
 returns c =
-    let loop = c .before .before .before .before .before .before .before .before .before .loop in
-    let call = c .before .before .before .before .try-lane in
-    let explains = c .before .before .before .before .before .before .before .in-lane .ensures in
-    let more = c .before .before .before .before .before .before .before .before .loop-test .taken in
+    let tried = c .before .before .before .before in
+    let call = tried .try-lane in
+    let told = tried .before .before .before in
+    let explains = told .in-lane .ensures in
+    let more = told .before .loop-test .taken in
+    let loop = told .before .before .loop in
     let done = lanes-next (loop .inv .2) (loop .inv .1) (omega arith) explains (call .ensures) in
     lanes-short done (omega arith) (omega arith)
 
@@ -58,10 +60,12 @@ loop-less c = search needs
 
 loop-again : tie.Need-loop-again Inv-loop μ-loop
 loop-again c =
-    let loop = c .before .before .before .before .before .before .before .before .before .loop in
-    let call = c .before .before .before .before .try-lane in
-    let explains = c .before .before .before .before .before .before .before .in-lane .ensures in
-    let more = c .before .before .before .before .before .before .before .before .loop-test .taken in
+    let tried = c .before .before .before .before in
+    let call = tried .try-lane in
+    let told = tried .before .before .before in
+    let explains = told .in-lane .ensures in
+    let more = told .before .loop-test .taken in
+    let loop = told .before .before .loop in
     let one = call .ensures .advance in
     (omega arith, omega arith, lanes-next (loop .inv .2) (loop .inv .1) (omega arith) explains (call .ensures))
 
