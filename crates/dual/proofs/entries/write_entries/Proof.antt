@@ -1,7 +1,7 @@
 -- `dual::entries::write_entries` meets its contract. The loop's invariant: the entries of the objective literals passed are written.
 -- Assumes nothing.
 use borrow.Author.Needs.{needs}
-use mathlib.Core.Path.{_≡_, refl, sym, ap, subst, _∙_}
+use mathlib.Core.Path.{_≡_, refl, ap, _∙_}
 use mathlib.Core.List.{List}
 use Prim.Native.Nat.{ℕ, _+_, _-_, _*_, _≤_}
 use native.Mathlib.Omega.{arith}
@@ -9,6 +9,7 @@ use denote.Ref.{now}
 use lib.ListN.{length, drop, length-drop}
 use borrow.Rule.Slice.PartMut.{same-len-mid}
 use Rattle.literals.specs.Numbering.{judged}
+use Rattle.papers.specs.Program.{Program}
 use Rattle.papers.specs.Reading.{programIn}
 use Rattle.dual.specs.Table.{entryIfAny}
 use Rattle.dual.specs.Encoding.{encodeFields}
@@ -25,11 +26,31 @@ Inv-loop buffer₀ file contents places first next judged end₀ o₀ buffer end
 abbrev μ-loop : tie.MeasureT-loop
 μ-loop buffer₀ file contents places first next judged end₀ o₀ buffer end o = judged - o
 
--- There is room for one more entry.
-room : (c : tie.In-loop Inv-loop μ-loop) → c .before .loop .end + length (encodeFields (entryIfAny (programIn (now (c .before .before .before .before .before .args .file))) (c .before .loop .o))) + 3 ≤ length (now (c .before .before .before .before .before .args .buffer))
+-- ---- what the file says
+
+module _ (c : tie.Start Inv-loop μ-loop) where
+  abbrev program : Program
+  program = programIn (now (c .args .file))
+
+  atoms : program .atoms ≡ c .args .contents .atoms
+  atoms = atoms-are (now (c .args .file)) (c .args .contents) (c .pre .0 .answer)
+
+-- ---- at the loop's head
+
+module _ (c : tie.At-loop Inv-loop μ-loop) where
+  abbrev start : tie.Start Inv-loop μ-loop
+  start = c .before .before .before .before
+
+  -- The bytes of the next entry.
+  abbrev entry : List ℕ
+  entry = encodeFields (entryIfAny (program start) (c .loop .o))
+
+-- There is room for it.
+room : (c : tie.In-loop Inv-loop μ-loop) → c .before .loop .end + length (entry (c .before)) + 3 ≤ length (now (start (c .before) .args .buffer))
 room c =
-    let e = atoms-are (now (c .before .before .before .before .before .args .file)) (c .before .before .before .before .before .args .contents) (c .before .before .before .before .before .pre .0 .answer) in
-    omega (arith, c .before .loop .inv .1 .0 .ends, table-room (programIn (now (c .before .before .before .before .before .args .file))) (2 * c .before .before .before .before .before .args .contents .atoms + 1) (c .before .loop .o) (omega arith) (c .loop-test .taken), c .before .before .before .before .before .pre .1 .1)
+    let s = start (c .before) in
+    let a = atoms s in
+    omega (arith, c .before .loop .inv .1 .0 .ends, table-room (program s) (2 * s .args .contents .atoms + 1) (c .before .loop .o) (omega arith) (c .loop-test .taken), s .pre .1 .1)
 
 cast-judged : tie.Need-cast-judged Inv-loop μ-loop
 cast-judged c = search needs
@@ -41,25 +62,31 @@ add-judged : tie.Need-add-judged Inv-loop μ-loop
 add-judged c = search needs
 
 loop-holds : tie.Need-loop-holds Inv-loop μ-loop
-loop-holds c = (omega arith, (tabled-none (programIn (now (c .before .before .before .args .file))) (now (c .before .before .before .args .buffer)), refl))
+loop-holds c =
+    let s = c .before .before .before in
+    (omega arith, (tabled-none (program s) (now (s .args .buffer)), refl))
 
 sub-write-any-entry : tie.Need-sub-write-any-entry Inv-loop μ-loop
-sub-write-any-entry c = let r = room (c) in omega (arith, c .before .loop .inv .1 .1)
+sub-write-any-entry c = omega (arith, room c, c .before .loop .inv .1 .1)
 
 part-write-any-entry-start : tie.Need-part-write-any-entry-start Inv-loop μ-loop
-part-write-any-entry-start c = let r = room (c) in omega (arith, c .before .loop .inv .1 .1)
+part-write-any-entry-start c = omega (arith, room c, c .before .loop .inv .1 .1)
 
 part-write-any-entry-end : tie.Need-part-write-any-entry-end Inv-loop μ-loop
 part-write-any-entry-end c = omega arith
 
 write-any-entry-requires : tie.Need-write-any-entry-requires Inv-loop μ-loop
-write-any-entry-requires c κs = let r = room (c .before) in
-    let p = ap length (part-end (c .before .before .loop .end) (c .before .before .loop .buffer)) in
-    let d = length-drop (c .before .before .loop .end) (c .before .before .loop .buffer) in
-    (c .before .before .before .before .before .before .pre .0, (c .before .before .before .before .before .before .pre .1 .0, (omega (arith, few-atoms (now (c .before .before .before .before .before .before .args .file)) (c .before .before .before .before .before .before .args .contents) (c .before .before .before .before .before .before .pre .0 .answer)), omega (arith, c .before .before .loop .inv .1 .1))))
+write-any-entry-requires c κs =
+    let at = c .before .before .loop in
+    let s = start (c .before .before) in
+    let r = room (c .before) in
+    let p = ap length (part-end (at .end) (at .buffer)) in
+    let d = length-drop (at .end) (at .buffer) in
+    let few = few-atoms (now (s .args .file)) (s .args .contents) (s .pre .0 .answer) in
+    (s .pre .0, (s .pre .1 .0, (omega arith, omega (arith, at .inv .1 .1))))
 
 add-end : tie.Need-add-end Inv-loop μ-loop
-add-end c = let r = room (c .before .before .before .before) in omega (arith, c .before .before .write-any-entry .ensures .0)
+add-end c = omega (arith, room (c .before .before .before .before), c .before .before .write-any-entry .ensures .0)
 
 add-o : tie.Need-add-o Inv-loop μ-loop
 add-o c = omega arith
@@ -68,16 +95,18 @@ loop-less : tie.Need-loop-less Inv-loop μ-loop
 loop-less c = omega arith
 
 loop-again : tie.Need-loop-again Inv-loop μ-loop
-loop-again c = let end = c .before .before .before .before .before .loop .end in
-    let buffer = c .before .before .before .before .before .loop .buffer in
-    let part = c .before .before .write-any-entry .last .0 in
-    let q : part ≡ filled (encodeFields (entryIfAny (programIn (now (c .before .before .before .before .before .before .before .before .before .args .file))) (c .before .before .before .before .before .loop .o))) (drop end buffer) =
-    c .before .before .write-any-entry .ensures .1 ∙ ap (λ (l : List ℕ). filled (encodeFields (entryIfAny (programIn (now (c .before .before .before .before .before .before .before .before .before .args .file))) (c .before .before .before .before .before .loop .o))) l) (part-end end buffer) in (
+loop-again c =
+    let wrote = c .before .before .write-any-entry in
+    let head = c .before .before .before .before .before in
+    let s = start head in
+    let end = head .loop .end in
+    let buffer = head .loop .buffer in
+    let part = wrote .last .0 in
+    let written : part ≡ filled (entry head) (drop end buffer) = rw (part-end end buffer) at (wrote .ensures .1) in (
       omega arith,
       (
-        subst (λ (b : List ℕ). Tabled (programIn (now (c .before .before .before .before .before .before .before .before .before .args .file))) (now (c .before .before .before .before .before .before .before .before .before .args .buffer)) b (c .before .before .before .before .before .loop .o + 1) (end + c .before .before .write-any-entry .result)) (sym (put-end end buffer part))
-            (tabled-more (programIn (now (c .before .before .before .before .before .before .before .before .before .args .file))) (now (c .before .before .before .before .before .before .before .before .before .args .buffer)) buffer (c .before .before .before .before .before .loop .o) end (c .before .before .before .before .before .loop .inv .1 .0) part (c .before .before .write-any-entry .result) q (c .before .before .write-any-entry .ensures .0)),
-        same-len-mid end (length buffer - end) buffer part (c .before .before .write-any-entry .kept .0) ∙ c .before .before .before .before .before .loop .inv .1 .1,
+        rw (put-end end buffer part) (tabled-more (program s) (now (s .args .buffer)) buffer (head .loop .o) end (head .loop .inv .1 .0) part (wrote .result) written (wrote .ensures .0)),
+        same-len-mid end (length buffer - end) buffer part (wrote .kept .0) ∙ head .loop .inv .1 .1,
       ),
     )
 
@@ -85,7 +114,10 @@ same-length : tie.Need-same-length Inv-loop μ-loop
 same-length c = c .before .loop .inv .1 .1
 
 returns : tie.Need-returns Inv-loop μ-loop
-returns c = tabled-done (programIn (now (c .before .before .before .before .before .args .file))) (now (c .before .before .before .before .before .args .buffer)) (c .before .loop .buffer) (c .before .loop .o) (c .before .loop .end) (c .before .loop .inv .1 .0) (omega (arith, atoms-are (now (c .before .before .before .before .before .args .file)) (c .before .before .before .before .before .args .contents) (c .before .before .before .before .before .pre .0 .answer)))
+returns c =
+    let at = c .before .loop in
+    let s = start (c .before) in
+    tabled-done (program s) (now (s .args .buffer)) (at .buffer) (at .o) (at .end) (at .inv .1 .0) (omega (arith, atoms s))
 
 pub write-entries-spec : {M : Type 1} → statement M
 write-entries-spec =

@@ -1,9 +1,9 @@
 -- `dual::writing::write_fold` meets its contract. The loop's invariant: the conjugates of the first i literals are written.
 -- Assumes nothing.
 use borrow.Author.Needs.{needs}
-use mathlib.Core.Path.{_≡_, refl, sym, subst, _∙_}
+use mathlib.Core.Path.{_≡_, refl, _∙_}
 use mathlib.Core.List.{List, map}
-use Prim.Native.Nat.{ℕ, _+_, _-_, _≤_}
+use Prim.Native.Nat.{ℕ, _+_, _-_, _≤_, _<_}
 use native.Mathlib.Omega.{arith}
 use denote.Ref.{now}
 use lib.ListN.{length, length-map}
@@ -20,6 +20,34 @@ Inv-loop buffer₀ fold body size count i₀ buffer i = (i ≤ count) × (Conjug
 abbrev μ-loop : tie.MeasureT-loop
 μ-loop buffer₀ fold body size count i₀ buffer i = count - i
 
+-- ---- once the heading is written
+
+module _ (c : tie.After-put-heading Inv-loop μ-loop) where
+  abbrev start : tie.Start Inv-loop μ-loop
+  start = c .before .before .before .before
+
+  abbrev body : List ℕ
+  body = now (start .args .body)
+
+  -- There is room for the literals.
+  fits : 5 + length body ≤ length (c .put-heading .last .0)
+  fits = omega (arith, c .put-heading .kept .0)
+
+-- ---- once a literal's conjugate is at hand
+
+module _ (c : tie.After-default-conjugate Inv-loop μ-loop) where
+  abbrev literal : tie.After-number-at Inv-loop μ-loop
+  literal = c .before
+
+  abbrev head : tie.At-loop Inv-loop μ-loop
+  head = literal .before .before
+
+  abbrev heading : tie.After-put-heading Inv-loop μ-loop
+  heading = head .before .before .before
+
+  small : c .default-conjugate .result .0 < 65536
+  small = omega (arith, c .default-conjugate .ensures, pair-sum (literal .number-at .result), literal .number-at .ensures .1)
+
 add-put-heading : tie.Need-add-put-heading Inv-loop μ-loop
 add-put-heading c = search needs
 
@@ -27,7 +55,9 @@ put-heading-requires : tie.Need-put-heading-requires Inv-loop μ-loop
 put-heading-requires c κs = search needs
 
 loop-holds : tie.Need-loop-holds Inv-loop μ-loop
-loop-holds c = (omega arith, (conjugated-none (c .before .before .put-heading .last .0) (now (c .before .before .before .before .before .before .args .body)) (omega (arith, c .before .before .put-heading .kept .0)), refl))
+loop-holds c =
+    let w = c .before .before in
+    (omega arith, (conjugated-none (w .put-heading .last .0) (body w) (omega (arith, fits w)), refl))
 
 mul-number-at : tie.Need-mul-number-at Inv-loop μ-loop
 mul-number-at c = search needs
@@ -48,10 +78,12 @@ add-put-number : tie.Need-add-put-number Inv-loop μ-loop
 add-put-number c = search needs
 
 cast-put-number : tie.Need-cast-put-number Inv-loop μ-loop
-cast-put-number c = omega (arith, c .before .before .default-conjugate .ensures, pair-sum (c .before .before .before .number-at .result), c .before .before .before .number-at .ensures .1)
+cast-put-number c = omega (arith, small (c .before .before))
 
 put-number-requires : tie.Need-put-number-requires Inv-loop μ-loop
-put-number-requires c κs = (omega (arith, c .before .before .before .before .before .loop .inv .1 .1, c .before .before .before .before .before .before .before .before .put-heading .kept .0), omega (arith, c .before .before .default-conjugate .ensures, pair-sum (c .before .before .before .number-at .result), c .before .before .before .number-at .ensures .1))
+put-number-requires c κs =
+    let w = c .before .before in
+    (omega (arith, head w .loop .inv .1 .1, heading w .put-heading .kept .0), omega (arith, small w))
 
 add-i : tie.Need-add-i Inv-loop μ-loop
 add-i c = search needs
@@ -60,14 +92,17 @@ loop-less : tie.Need-loop-less Inv-loop μ-loop
 loop-less c = search needs
 
 loop-again : tie.Need-loop-again Inv-loop μ-loop
-loop-again c = let b = now (c .before .before .before .before .before .before .before .before .before .before .before .before .before .before .before .args .body) in (
-  omega arith,
-  (
-    subst (λ (l : List ℕ). Conjugated (c .before .before .before .before .before .before .before .before .before .before .before .put-heading .last .0) b l (c .before .before .before .before .before .before .before .before .loop .i + 1)) (sym (c .before .before .put-number .ensures))
-        (conjugated-more (c .before .before .before .before .before .before .before .before .before .before .before .put-heading .last .0) b (c .before .before .before .before .before .before .before .before .loop .buffer) (c .before .before .before .before .before .before .before .before .loop .i) (c .before .before .before .before .before .before .before .before .loop .inv .1 .0) (omega (arith, c .before .before .before .before .before .before .before .before .before .before .before .put-heading .kept .0)) (c .before .before .before .before .before .before .before .loop-test .taken) (c .before .before .before .before .before .before .number-at .ensures .0) (c .before .before .before .before .before .default-conjugate .ensures)),
-    c .before .before .put-number .kept .0 ∙ c .before .before .before .before .before .before .before .before .loop .inv .1 .1,
-  ),
-)
+loop-again c =
+    let put = c .before .before .put-number in
+    let w = c .before .before .before .before .before in
+    let at = head w .loop in
+    let h = heading w in (
+      omega arith,
+      (
+        rw (put .ensures) (conjugated-more _ _ _ _ (at .inv .1 .0) (fits h) (literal w .before .loop-test .taken) (literal w .number-at .ensures .0) (w .default-conjugate .ensures)),
+        put .kept .0 ∙ at .inv .1 .1,
+      ),
+    )
 
 add-result : tie.Need-add-result Inv-loop μ-loop
 add-result c = search needs
@@ -76,12 +111,13 @@ same-length : tie.Need-same-length Inv-loop μ-loop
 same-length c = c .before .loop .inv .1 .1 ∙ c .before .before .before .before .put-heading .kept .0
 
 returns : tie.Need-returns Inv-loop μ-loop
-returns c = let a = c .before .before .before .before .before .before .before .before .args in
-    let b = now (a .body) in
-    let l = length-map (numbers b) defaultConjugate in (
+returns c =
+    let w = c .before .before .before .before in
+    let a = start w .args in
+    let l = length-map (numbers (body w)) defaultConjugate in (
       refl,
-      field-written 0x09 (a .fold) (2 + length b) (map defaultConjugate (numbers b)) (now (a .buffer)) (c .before .before .before .before .put-heading .last .0) (c .before .loop .buffer) (omega (arith, c .before .before .before .before .before .before .before .before .pre .1 .1 .1)) (omega arith) (c .before .before .before .before .put-heading .ensures)
-          (conjugated-done (c .before .before .before .before .put-heading .last .0) b (c .before .loop .buffer) (c .before .loop .i) (c .before .loop .inv .1 .0) (omega (arith, c .before .before .before .before .put-heading .kept .0)) (c .loop-test .left)),
+      field-written 0x09 (a .fold) (2 + length (body w)) (map defaultConjugate (numbers (body w))) (now (a .buffer)) (w .put-heading .last .0) (c .before .loop .buffer) (omega (arith, start w .pre .1 .1 .1)) (omega arith) (w .put-heading .ensures)
+          (conjugated-done _ _ _ _ (c .before .loop .inv .1 .0) (fits w) (c .loop-test .left)),
     )
 
 pub write-fold-spec : {M : Type 1} → statement M

@@ -1,8 +1,8 @@
 -- `dual::writing::write_literal` meets its contract. The loop's invariant: the folds behind are written.
 -- Assumes nothing.
-use mathlib.Core.Path.{_≡_, refl, sym, subst, _∙_}
+use mathlib.Core.Path.{_≡_, refl, _∙_}
 use mathlib.Core.List.{List}
-use Prim.Native.Nat.{ℕ, _+_, _-_, _*_}
+use Prim.Native.Nat.{ℕ, _+_, _-_, _*_, _≤_, _<_}
 use native.Mathlib.Omega.{arith}
 use denote.Ref.{now}
 use lib.ListN.{length, getD}
@@ -17,6 +17,38 @@ Inv-loop buffer₀ next start o count at₀ fold₀ buffer at fold = Listed next
 abbrev μ-loop : tie.MeasureT-loop
 μ-loop buffer₀ next start o count at₀ fold₀ buffer at fold = 1280 - fold
 
+-- ---- once the heading is written
+
+module _ (c : tie.After-put-heading Inv-loop μ-loop) where
+  abbrev counted : tie.After-fold-count Inv-loop μ-loop
+  counted = c .before .before
+
+  abbrev start : tie.Start Inv-loop μ-loop
+  start = counted .before .before
+
+  abbrev folds : List ℕ
+  folds = foldsAt (now (start .args .next)) (start .args .start)
+
+  -- There is room for the folds.
+  fits : 5 + 2 * length folds ≤ length (c .put-heading .last .0)
+  fits = omega (arith, c .put-heading .kept .0)
+
+-- ---- in a turn of the loop
+
+module _ (c : tie.In-loop Inv-loop μ-loop) where
+  abbrev head : tie.At-loop Inv-loop μ-loop
+  head = c .before
+
+  abbrev heading : tie.After-put-heading Inv-loop μ-loop
+  heading = head .before .before .before
+
+  -- There is room for one more.
+  room : head .loop .at + 1 < length (heading .put-heading .last .0)
+  room = listed-room _ _ _ _ _ _ (head .loop .inv .0) (fits heading) (c .loop-test .taken)
+
+  rises : head .loop .fold < getD (now (start heading .args .next)) (head .loop .fold) 0
+  rises = listed-rises _ _ _ _ _ _ (head .loop .inv .0) (fits heading) (c .loop-test .taken)
+
 fold-count-requires : tie.Need-fold-count-requires Inv-loop μ-loop
 fold-count-requires c κs = c .before .pre .0
 
@@ -30,13 +62,17 @@ put-heading-requires : tie.Need-put-heading-requires Inv-loop μ-loop
 put-heading-requires c κs = (omega arith, (omega (arith, c .before .fold-count .ensures .1), c .before .before .before .pre .1 .1))
 
 loop-holds : tie.Need-loop-holds Inv-loop μ-loop
-loop-holds c = (listed-none (c .before .before .put-heading .last .0) (omega (arith, c .before .before .put-heading .kept .0)) (c .before .before .before .before .before .before .pre .0), refl)
+loop-holds c =
+    let w = c .before .before in
+    (listed-none (w .put-heading .last .0) (omega (arith, fits w)) (start w .pre .0), refl)
 
 put-number-requires : tie.Need-put-number-requires Inv-loop μ-loop
-put-number-requires c κs = (omega (arith, c .before .before .loop .inv .1, listed-room (now (c .before .before .before .before .before .before .before .before .before .args .next)) (foldsAt (now (c .before .before .before .before .before .before .before .before .before .args .next)) (c .before .before .before .before .before .before .before .before .before .args .start)) (c .before .before .before .before .before .put-heading .last .0) (c .before .before .loop .buffer) (c .before .before .loop .fold) (c .before .before .loop .at) (c .before .before .loop .inv .0) (omega (arith, c .before .before .before .before .before .put-heading .kept .0)) (c .before .loop-test .taken)), omega arith)
+put-number-requires c κs = (omega (arith, room (c .before), c .before .before .loop .inv .1), omega arith)
 
 add-at : tie.Need-add-at Inv-loop μ-loop
-add-at c = omega (arith, listed-room (now (c .before .before .before .before .before .before .before .before .before .before .before .before .args .next)) (foldsAt (now (c .before .before .before .before .before .before .before .before .before .before .before .before .args .next)) (c .before .before .before .before .before .before .before .before .before .before .before .before .args .start)) (c .before .before .before .before .before .before .before .before .put-heading .last .0) (c .before .before .before .before .before .loop .buffer) (c .before .before .before .before .before .loop .fold) (c .before .before .before .before .before .loop .at) (c .before .before .before .before .before .loop .inv .0) (omega (arith, c .before .before .before .before .before .before .before .before .put-heading .kept .0)) (c .before .before .before .before .loop-test .taken), c .before .before .before .before .before .before .before .before .put-heading .kept .0)
+add-at c =
+    let turn = c .before .before .before .before in
+    omega (arith, room turn, heading turn .put-heading .kept .0)
 
 mul-fold : tie.Need-mul-fold Inv-loop μ-loop
 mul-fold c = omega arith
@@ -45,23 +81,28 @@ element-copy-out-fold : tie.Need-element-copy-out-fold Inv-loop μ-loop
 element-copy-out-fold c = c .before .before .before .before .loop-test .taken
 
 loop-less : tie.Need-loop-less Inv-loop μ-loop
-loop-less c = omega (arith, listed-rises (now (c .before .before .before .before .before .before .before .before .before .before .before .before .before .args .next)) (foldsAt (now (c .before .before .before .before .before .before .before .before .before .before .before .before .before .args .next)) (c .before .before .before .before .before .before .before .before .before .before .before .before .before .args .start)) (c .before .before .before .before .before .before .before .before .before .put-heading .last .0) (c .before .before .before .before .before .before .loop .buffer) (c .before .before .before .before .before .before .loop .fold) (c .before .before .before .before .before .before .loop .at) (c .before .before .before .before .before .before .loop .inv .0) (omega (arith, c .before .before .before .before .before .before .before .before .before .put-heading .kept .0)) (c .before .before .before .before .before .loop-test .taken))
+loop-less c = omega (arith, rises (c .before .before .before .before .before))
 
 loop-again : tie.Need-loop-again Inv-loop μ-loop
-loop-again c = (
-  subst (λ (b : List ℕ). Listed (now (c .before .before .before .before .before .before .before .before .before .before .before .before .before .args .next)) (foldsAt (now (c .before .before .before .before .before .before .before .before .before .before .before .before .before .args .next)) (c .before .before .before .before .before .before .before .before .before .before .before .before .before .args .start)) (c .before .before .before .before .before .before .before .before .before .put-heading .last .0) b (getD (now (c .before .before .before .before .before .before .before .before .before .before .before .before .before .args .next)) (c .before .before .before .before .before .before .loop .fold) 0) (c .before .before .before .before .before .before .loop .at + 2)) (sym (c .before .before .before .put-number .ensures))
-      (listed-next (now (c .before .before .before .before .before .before .before .before .before .before .before .before .before .args .next)) (foldsAt (now (c .before .before .before .before .before .before .before .before .before .before .before .before .before .args .next)) (c .before .before .before .before .before .before .before .before .before .before .before .before .before .args .start)) (c .before .before .before .before .before .before .before .before .before .put-heading .last .0) (c .before .before .before .before .before .before .loop .buffer) (c .before .before .before .before .before .before .loop .fold) (c .before .before .before .before .before .before .loop .at) (c .before .before .before .before .before .before .loop .inv .0) (omega (arith, c .before .before .before .before .before .before .before .before .before .put-heading .kept .0)) (c .before .before .before .before .before .loop-test .taken)),
-  c .before .before .before .put-number .kept .0 ∙ c .before .before .before .before .before .before .loop .inv .1,
-)
+loop-again c =
+    let put = c .before .before .before .put-number in
+    let turn = c .before .before .before .before .before in
+    let at = head turn .loop in (
+      rw (put .ensures) (listed-next _ _ _ _ _ _ (at .inv .0) (fits (heading turn)) (turn .loop-test .taken)),
+      put .kept .0 ∙ at .inv .1,
+    )
 
 same-length : tie.Need-same-length Inv-loop μ-loop
 same-length c = c .before .loop .inv .1 ∙ c .before .before .before .before .put-heading .kept .0
 
 returns : tie.Need-returns Inv-loop μ-loop
-returns c = let a = c .before .before .before .before .before .before .before .before .args in
-    let d = listed-done (now (c .before .before .before .before .before .before .before .before .args .next)) (foldsAt (now (c .before .before .before .before .before .before .before .before .args .next)) (c .before .before .before .before .before .before .before .before .args .start)) (c .before .before .before .before .put-heading .last .0) (c .before .loop .buffer) (c .before .loop .fold) (c .before .loop .at) (c .before .loop .inv .0) (omega (arith, c .before .before .before .before .put-heading .kept .0)) (c .loop-test .left) in (
+returns c =
+    let w = c .before .before .before .before in
+    let a = start w .args in
+    let count = counted w .fold-count in
+    let d = listed-done _ _ _ _ _ _ (c .before .loop .inv .0) (fits w) (c .loop-test .left) in (
       d .1,
-      field-written 0x08 (a .o) (2 + 2 * c .before .before .before .before .before .before .fold-count .result) (foldsAt (now (c .before .before .before .before .before .before .before .before .args .next)) (c .before .before .before .before .before .before .before .before .args .start)) (now (a .buffer)) (c .before .before .before .before .put-heading .last .0) (c .before .loop .buffer) (omega (arith, c .before .before .before .before .before .before .fold-count .ensures .0)) (omega arith) (c .before .before .before .before .put-heading .ensures) (d .0),
+      field-written 0x08 (a .o) (2 + 2 * count .result) (folds w) (now (a .buffer)) (w .put-heading .last .0) (c .before .loop .buffer) (omega (arith, count .ensures .0)) (omega arith) (w .put-heading .ensures) (d .0),
     )
 
 pub write-literal-spec : {M : Type 1} → statement M
