@@ -1,10 +1,11 @@
 -- `lanes::settling::next_round` meets its contract: T is closed under the rules, F is the greatest set from the dual.
 -- Assumes nothing.
-use mathlib.Core.Path.{sym, subst, _∙_}
-use Prim.Native.Nat.{ℕ, _+_}
+use mathlib.Core.Path.{_≡_, _∙_}
+use Prim.Native.Nat.{_+_}
 use native.Mathlib.Omega.{arith}
 use denote.Ref.{now}
 use Rattle.literals.specs.Numbering.{judged}
+use Rattle.papers.specs.Program.{Program}
 use Rattle.papers.specs.Reading.{programIn}
 use Rattle.dual.proofs.FileFacts.{program-valid, atoms-are, few-atoms}
 use Rattle.lanes.specs.Lanes.{lane, BackingWords}
@@ -16,11 +17,40 @@ use borrow.Author.Needs.{needs}
 use Rattle.lanes.proofs.settling.next_round.Statement.{statement}
 use Rattle.lanes.proofs.settling.next_round.Tie as tie
 
+-- ---- what the file says
+
+module _ (c : tie.Start) where
+  abbrev program : Program
+  program = programIn (now (c .args .file))
+
+  atoms : program .atoms ≡ c .args .contents .atoms
+  atoms = atoms-are (now (c .args .file)) (c .args .contents) (c .pre .0 .answer)
+
+-- ---- once T is closed under the rules
+
+module _ (c : tie.After-close-true) where
+  abbrev copied : tie.After-held
+  copied = c .before .before .before .before .before
+
+  abbrev start : tie.Start
+  start = copied .before .before .before
+
+-- ---- once the words that back the dual are at hand
+
+module _ (c : tie.After-backing-words) where
+  abbrev closed : tie.After-close-true
+  closed = c .before .before
+
+  backing : BackingWords (program (start closed) .atoms) (start closed .args .before .t) (now (start closed .args .falses)) (c .backing-words .result)
+  backing = rw (atoms (start closed)) (c .backing-words .ensures)
+
 close-true-requires : tie.Need-close-true-requires
 close-true-requires c κs = search needs
 
 backing-words-requires : tie.Need-backing-words-requires
-backing-words-requires c κs = few-atoms (now (c .before .before .before .before .before .before .before .before .before .args .file)) (c .before .before .before .before .before .before .before .before .before .args .contents) (c .before .before .before .before .before .before .before .before .before .pre .0 .answer)
+backing-words-requires c κs =
+    let s = start (c .before) in
+    few-atoms (now (s .args .file)) (s .args .contents) (s .pre .0 .answer)
 
 cast-count : tie.Need-cast-count
 cast-count c = search needs
@@ -33,25 +63,29 @@ add-count c = search needs
 
 close-false-requires : tie.Need-close-false-requires
 close-false-requires c κs =
-    let e = atoms-are (now (c .before .before .before .before .before .before .before .before .before .before .before .before .before .before .args .file)) (c .before .before .before .before .before .before .before .before .before .before .before .before .before .before .args .contents) (c .before .before .before .before .before .before .before .before .before .before .before .before .before .before .pre .0 .answer) in
-    (c .before .before .before .before .before .before .before .before .before .before .before .before .before .before .pre .1, omega arith)
+    let s = start (closed (c .before .before .before .before)) in
+    let same = atoms s in
+    (s .pre .1, omega arith)
 
 complement-words-requires : tie.Need-complement-words-requires
 complement-words-requires c κs = search needs
 
 returns : tie.Need-returns
 returns c =
-    let a = c .before .before .before .before .before .before .before .before .before .before .before .before .before .before .before .before .before .args in
+    let closed-false = c .before .before in
+    let backed = closed-false .before .before .before .before .before in
+    let s = start (closed backed) in
+    let a = s .args in
+    let p = program s in
     let trues = now (a .trues) in
     let falses = now (a .falses) in
     let held = a .before .t in
-    let backing = c .before .before .before .before .before .before .before .backing-words .result in
-    let b : BackingWords ((programIn (now (c .before .before .before .before .before .before .before .before .before .before .before .before .before .before .before .before .before .args .file))) .atoms) held falses backing = subst (λ (n : ℕ). BackingWords n held falses backing) (sym (atoms-are (now (c .before .before .before .before .before .before .before .before .before .before .before .before .before .before .before .before .before .args .file)) (c .before .before .before .before .before .before .before .before .before .before .before .before .before .before .before .before .before .args .contents) (c .before .before .before .before .before .before .before .before .before .before .before .before .before .before .before .before .before .pre .0 .answer))) (c .before .before .before .before .before .before .before .backing-words .ensures) in (
+    let words = backed .backing-words .result in (
       record {
-        true-in = λ base l h s. closed-true-set (c .before .before .before .before .before .before .before .before .before .close-true .ensures) (base + l) l h (seed-lane (programIn (now (c .before .before .before .before .before .before .before .before .before .before .before .before .before .before .before .before .before .args .file))) base l trues falses h s);
-        false-in = λ base l h s.
-            lane-greatest (programIn (now (c .before .before .before .before .before .before .before .before .before .before .before .before .before .before .before .before .before .args .file))) (base + l) l held backing _ h (c .before .before .close-false .ensures) (backing-lane (programIn (now (c .before .before .before .before .before .before .before .before .before .before .before .before .before .before .before .before .before .args .file))) base l trues falses held backing h s b)
-            ∙ falsity-from-dual (programIn (now (c .before .before .before .before .before .before .before .before .before .before .before .before .before .before .before .before .before .args .file))) (program-valid (now (c .before .before .before .before .before .before .before .before .before .before .before .before .before .before .before .before .before .args .file)) (c .before .before .before .before .before .before .before .before .before .before .before .before .before .before .before .before .before .args .contents) (c .before .before .before .before .before .before .before .before .before .before .before .before .before .before .before .before .before .pre .0 .answer)) (base + l) (lane (judged ((programIn (now (c .before .before .before .before .before .before .before .before .before .before .before .before .before .before .before .before .before .args .file))) .atoms)) l held);
+        true-in = λ base l h seeds. closed-true-set (closed backed .close-true .ensures) (base + l) l h (seed-lane p base l trues falses h seeds);
+        false-in = λ base l h seeds.
+            lane-greatest p (base + l) l held words _ h (closed-false .close-false .ensures) (backing-lane p base l trues falses held words h seeds (backing backed))
+            ∙ falsity-from-dual p (program-valid (now (a .file)) (a .contents) (s .pre .0 .answer)) (base + l) (lane (judged (p .atoms)) l held);
       },
       c .complement-words .ensures,
     )

@@ -1,9 +1,12 @@
 -- `lanes::settling::settle` meets its contract. The loop's invariant: in each lane the interpretation of the last round.
 -- Assumes nothing.
 use borrow.Author.Needs.{needs}
-use Prim.Native.Nat.{_-_}
+use mathlib.Core.Path.{_≡_}
+use mathlib.Core.Bool.{true}
+use Prim.Native.Nat.{_-_, _≤_, _<_}
 use native.Mathlib.Omega.{arith}
 use denote.Ref.{now}
+use Rattle.papers.specs.Program.{Program}
 use Rattle.papers.specs.Reading.{programIn}
 use Rattle.dual.proofs.FileFacts.{atoms-are, few-atoms}
 use Rattle.lanes.proofs.SettlingLaws.{Settling, settling-start, settling-next}
@@ -16,6 +19,44 @@ Inv-loop file contents places dual base trues falses count model₀ rounds₀ ro
 
 abbrev μ-loop : tie.MeasureT-loop
 μ-loop file contents places dual base trues falses count model₀ rounds₀ round₀ going₀ model rounds round going = 1027 - round
+
+-- ---- what the file says
+
+module _ (c : tie.Start Inv-loop μ-loop) where
+  abbrev program : Program
+  program = programIn (now (c .args .file))
+
+  atoms : program .atoms ≡ c .args .contents .atoms
+  atoms = atoms-are (now (c .args .file)) (c .args .contents) (c .pre .0 .answer)
+
+  few : c .args .contents .atoms ≤ 256
+  few = few-atoms (now (c .args .file)) (c .args .contents) (c .pre .0 .answer)
+
+-- ---- in a turn of the loop
+
+module _ (c : tie.In-loop Inv-loop μ-loop) where
+  abbrev head : tie.At-loop Inv-loop μ-loop
+  head = c .before
+
+  abbrev seeded : tie.After-abducible-lanes Inv-loop μ-loop
+  seeded = head .before .before .before .before
+
+  abbrev start : tie.Start Inv-loop μ-loop
+  start = seeded .before .before .before
+
+  early : head .loop .round < 1027
+  early = omega (arith, head .loop .inv .goes (c .loop-test .taken), atoms start, few start)
+
+  settling : Settling (program start) (start .args .base) (head .loop .round) true (head .loop .model .t) (head .loop .model .p) (head .loop .model .f) (head .loop .rounds)
+  settling = rw (c .loop-test .taken) at (c .before .loop .inv)
+
+-- ---- the places of a turn
+
+abbrev turn : tie.After-next-round Inv-loop μ-loop → tie.In-loop Inv-loop μ-loop
+turn c = c .before .before .before
+
+abbrev next : tie.After-changed-lanes Inv-loop μ-loop → tie.After-next-round Inv-loop μ-loop
+next c = c .before .before .before .before .before
 
 abducible-lanes-requires : tie.Need-abducible-lanes-requires Inv-loop μ-loop
 abducible-lanes-requires c κs = search needs
@@ -37,42 +78,39 @@ next-round-requires c κs = search needs
 
 changed-lanes-requires : tie.Need-changed-lanes-requires Inv-loop μ-loop
 changed-lanes-requires c κs =
-    let a = c .before .before .before .before .before .before .before .before .before .before .before .before .before .before .before .args in
-    let few = few-atoms (now (a .file)) (a .contents) (c .before .before .before .before .before .before .before .before .before .before .before .before .before .before .before .pre .0 .answer) in
-    omega arith
+    let next = c .before .before .before .before in
+    omega (arith, few (start (turn next)))
 
 changed-lanes-requires-2 : tie.Need-changed-lanes-requires-2 Inv-loop μ-loop
 changed-lanes-requires-2 c κs =
-    let a = c .before .before .before .before .before .before .before .before .before .before .before .before .before .before .before .before .before .before .before .before .args in
-    let few = few-atoms (now (a .file)) (a .contents) (c .before .before .before .before .before .before .before .before .before .before .before .before .before .before .before .before .before .before .before .before .pre .0 .answer) in
-    omega arith
+    let compared = c .before .before .before .before in
+    omega (arith, few (start (turn (next compared))))
 
 add-round : tie.Need-add-round Inv-loop μ-loop
 add-round c =
-    let a = c .before .before .before .before .before .before .before .before .before .before .before .before .before .before .before .before .before .before .before .before .before .args in
-    let few = few-atoms (now (a .file)) (a .contents) (c .before .before .before .before .before .before .before .before .before .before .before .before .before .before .before .before .before .before .before .before .before .pre .0 .answer) in
-    let same = atoms-are (now (a .file)) (a .contents) (c .before .before .before .before .before .before .before .before .before .before .before .before .before .before .before .before .before .before .before .before .before .pre .0 .answer) in
-    let goes = c .before .before .before .before .before .before .before .before .before .before .before .before .before .before .loop .inv .goes (c .before .before .before .before .before .before .before .before .before .before .before .before .before .loop-test .taken) in
-    omega arith
+    let compared = c .before .before .before .before .before in
+    omega (arith, early (turn (next compared)))
 
 mark-lanes-requires : tie.Need-mark-lanes-requires Inv-loop μ-loop
 mark-lanes-requires c κs = search needs
 
 loop-less : tie.Need-loop-less Inv-loop μ-loop
 loop-less c =
-    let a = c .before .before .before .before .before .before .before .before .before .before .before .before .before .before .before .before .before .before .before .before .before .before .args in
-    let few = few-atoms (now (a .file)) (a .contents) (c .before .before .before .before .before .before .before .before .before .before .before .before .before .before .before .before .before .before .before .before .before .before .pre .0 .answer) in
-    let same = atoms-are (now (a .file)) (a .contents) (c .before .before .before .before .before .before .before .before .before .before .before .before .before .before .before .before .before .before .before .before .before .before .pre .0 .answer) in
-    let goes = c .before .before .before .before .before .before .before .before .before .before .before .before .before .before .before .loop .inv .goes (c .before .before .before .before .before .before .before .before .before .before .before .before .before .before .loop-test .taken) in
-    omega arith
+    let compared = c .before .before .before .before .before .before in
+    omega (arith, early (turn (next compared)))
 
 loop-again : tie.Need-loop-again Inv-loop μ-loop
 loop-again c =
-    let a = c .before .before .before .before .before .before .before .before .before .before .before .before .before .before .before .before .before .before .before .before .before .before .args in
-    let l = c .before .before .before .before .before .before .before .before .before .before .before .before .before .before .before .loop in
-    let seeds = c .before .before .before .before .before .before .before .before .before .before .before .before .before .before .before .before .before .before .before .abducible-lanes in
-    let next = c .before .before .before .before .before .before .before .before .before .before .before .next-round in
-    settling-next (programIn (now (a .file))) (a .base) (l .round) (a .contents .atoms) (c .before .before .before .before .before .before .changed-lanes .result) (c .before .changed-lanes2 .result) (seeds .result .trues) (seeds .result .falses) (l .model .t) (l .model .p) (l .model .f) (l .rounds) (next .result .t) (next .result .p) (next .result .f) (c .mark-lanes .result) (atoms-are (now (a .file)) (a .contents) (c .before .before .before .before .before .before .before .before .before .before .before .before .before .before .before .before .before .before .before .before .before .before .pre .0 .answer)) (seeds .ensures) (rw (c .before .before .before .before .before .before .before .before .before .before .before .before .before .before .loop-test .taken) at (l .inv)) (next .ensures .0) (next .ensures .1) (c .before .before .before .before .before .before .changed-lanes .ensures) (c .before .changed-lanes2 .ensures) (search needs) (search needs) (c .mark-lanes .ensures)
+    let compared = c .before .before .before .before .before .before in
+    let begun = turn (next compared) in
+    let s = start begun in
+    let a = s .args in
+    let seeds = seeded begun .abducible-lanes in
+    let at = head begun .loop in
+    let n = next compared .next-round in
+    let t = compared .changed-lanes in
+    let f = c .before .changed-lanes2 in
+    settling-next (program s) (a .base) (at .round) (a .contents .atoms) (t .result) (f .result) (seeds .result .trues) (seeds .result .falses) (at .model .t) (at .model .p) (at .model .f) (at .rounds) (n .result .t) (n .result .p) (n .result .f) (c .mark-lanes .result) (atoms s) (seeds .ensures) (settling begun) (n .ensures .0) (n .ensures .1) (t .ensures) (f .ensures) (search needs) (search needs) (c .mark-lanes .ensures)
 
 returns : tie.Need-returns Inv-loop μ-loop
 returns c = (c .before .loop .inv .rests (c .loop-test .left), c .before .loop .inv .left)

@@ -1,12 +1,13 @@
 -- `lanes::truth::close_pass` meets its contract. The loop's invariant: the rules passed have been put to use, one after the other.
 -- Assumes nothing.
 use mathlib.Core.Path.{_≡_}
+use mathlib.Core.List.{List}
 use mathlib.Core.Logic.{⊎-elim}
-use Prim.Native.Nat.{_-_, _≤_}
+use Prim.Native.Nat.{_+_, _-_, _≤_}
 use native.Mathlib.Omega.{arith}
 use denote.Ref.{now}
 use lib.ListN.{length}
-use Rattle.papers.specs.Program.{allRules}
+use Rattle.papers.specs.Program.{Rule, allRules}
 use Rattle.papers.specs.Reading.{programIn}
 use Rattle.papers.proofs.FoldAnswers.{rules-counted, few-folds}
 use Rattle.lanes.specs.Closing.{Passed, begun}
@@ -21,17 +22,32 @@ Inv-loop file contents places truth₀ falses count changed₀ fold₀ truth cha
 abbrev μ-loop : tie.MeasureT-loop
 μ-loop file contents places truth₀ falses count changed₀ fold₀ truth changed fold = count - fold
 
+-- ---- what the file says
+
+module _ (c : tie.Start Inv-loop μ-loop) where
+  abbrev rules : List Rule
+  rules = allRules (programIn (now (c .args .file)))
+
+  counted : c .args .contents .rules .count + c .args .contents .integrity .count ≡ length rules
+  counted = rules-counted (now (c .args .file)) (c .args .contents) (c .pre .answer)
+
+  few : c .args .contents .rules .count + c .args .contents .integrity .count ≤ 1280
+  few = few-folds (now (c .args .file)) (c .args .contents) (c .pre .answer)
+
+abbrev start : tie.At-loop Inv-loop μ-loop → tie.Start Inv-loop μ-loop
+start c = c .before .before .before .before .before .before
+
 add-count : tie.Need-add-count Inv-loop μ-loop
-add-count c = let a = c .before .before .before .before .before .args in omega (arith, few-folds (now (a .file)) (a .contents) (c .before .before .before .before .before .pre .answer))
+add-count c = omega (arith, few (c .before .before .before .before .before))
 
 loop-holds : tie.Need-loop-holds Inv-loop μ-loop
-loop-holds c = let a = c .before .before .before .before .before .args in (omega arith, (rules-counted (now (a .file)) (a .contents) (c .before .before .before .before .before .pre .answer), begun))
+loop-holds c = (omega arith, (counted (c .before .before .before .before .before), begun))
 
 close-rule-requires : tie.Need-close-rule-requires Inv-loop μ-loop
-close-rule-requires c κs = (c .before .before .before .before .before .before .before .before .pre, omega arith)
+close-rule-requires c κs = (start (c .before .before) .pre, omega arith)
 
 add-fold : tie.Need-add-fold Inv-loop μ-loop
-add-fold c = let a = c .before .before .before .before .before .before .before .before .before .before .args in omega (arith, few-folds (now (a .file)) (a .contents) (c .before .before .before .before .before .before .before .before .before .before .pre .answer))
+add-fold c = omega (arith, few (start (c .before .before .before .before)))
 
 loop-less : tie.Need-loop-less Inv-loop μ-loop
 loop-less c = omega arith
@@ -51,9 +67,9 @@ loop-again c =
 
 returns : tie.Need-returns Inv-loop μ-loop
 returns c =
-    let inv = c .before .loop .inv in
-    let e : c .before .loop .fold ≡ length (allRules (programIn (now (c .before .before .before .before .before .before .before .args .file)))) = omega arith in
-    rw e at (inv .1 .1)
+    let at = c .before .loop in
+    let e : at .fold ≡ length (rules (start (c .before))) = omega arith in
+    rw e at (at .inv .1 .1)
 
 pub close-pass-spec : {M : Type 1} → statement M
 close-pass-spec =
