@@ -3,9 +3,10 @@
 use lib.ListN.{length, getD, length-set, length-replicate}
 use Rattle.papers.proofs.Lists.{set-more}
 use mathlib.Core.Path.{_≡_, _∙_}
-use Prim.Native.Nat.{ℕ, _-_, _≤_, _<_}
+use Prim.Native.Nat.{ℕ, _+_, _-_, _≤_, _<_}
 use native.Mathlib.Omega.{arith}
 use denote.Ref.{now}
+use Rattle.papers.specs.Program.{Program}
 use Rattle.papers.specs.Reading.{programIn}
 use Rattle.papers.specs.Places.{foldPlace}
 use Rattle.papers.proofs.RuleLaws.{rules-count}
@@ -19,41 +20,69 @@ Inv-loop file count places₀ place₀ i₀ places place i = (i ≤ count) × ((
 abbrev μ-loop : tie.MeasureT-loop
 μ-loop file count places₀ place₀ i₀ places place i = count - i
 
+-- ---- what the file says
+
+module _ (c : tie.Start Inv-loop μ-loop) where
+  abbrev program : Program
+  program = programIn (now (c .args .file))
+
+  few : c .args .contents .rules .count + c .args .contents .integrity .count ≤ 1280
+  few = few-folds (now (c .args .file)) (c .args .contents) (c .pre)
+
+-- ---- at the loop's head
+
+module _ (c : tie.At-loop Inv-loop μ-loop) where
+  abbrev known : tie.After-shared-slice-known Inv-loop μ-loop
+  known = c .before .before .before .before .before
+
+  abbrev start : tie.Start Inv-loop μ-loop
+  start = known .before
+
 add-count : tie.Need-add-count Inv-loop μ-loop
-add-count c = omega (arith, few-folds (now (c .before .before .before .before .before .args .file)) (c .before .before .before .before .before .args .contents) (c .before .before .before .before .before .pre))
+add-count c = omega (arith, few (c .before .before .before .before .before))
 
 loop-holds : tie.Need-loop-holds Inv-loop μ-loop
-loop-holds c = (omega arith, (first-place (now (c .before .before .before .before .before .args .file)) (c .before .before .before .before .before .args .contents) (c .before .before .before .before .before .pre), (length-replicate {A = ℕ} 1280 0, λ j h. absurd (omega arith))))
+loop-holds c =
+    let s = c .before .before .before .before .before in
+    (omega arith, (first-place (now (s .args .file)) (s .args .contents) (s .pre), (length-replicate {A = ℕ} 1280 0, λ j h. absurd (omega arith))))
 
 mul-places : tie.Need-mul-places Inv-loop μ-loop
-mul-places c = omega (arith, few-folds (now (c .before .before .before .before .before .before .before .args .file)) (c .before .before .before .before .before .before .before .args .contents) (c .before .before .before .before .before .before .before .pre))
+mul-places c = omega (arith, few (start (c .before)))
 
 array-write-places : tie.Need-array-write-places Inv-loop μ-loop
-array-write-places c = omega (arith, few-folds (now (c .before .before .before .before .before .before .before .args .file)) (c .before .before .before .before .before .before .before .args .contents) (c .before .before .before .before .before .before .before .pre))
+array-write-places c = omega (arith, few (start (c .before)))
 
 field-end-requires : tie.Need-field-end-requires Inv-loop μ-loop
-field-end-requires c κs = omega (arith, fold-heading (now (c .before .before .before .before .before .before .before .args .file)) (c .before .before .before .before .before .before .before .args .contents) (c .before .before .before .before .before .before .before .pre) (λ k. c .before .before .before .before .before .before .shared-slice-known .given k .fits) (c .before .loop .i) (c .loop-test .taken))
+field-end-requires c κs =
+    let head = c .before in
+    let s = start head in
+    omega (arith, fold-heading (now (s .args .file)) (s .args .contents) (s .pre) (λ k. known head .shared-slice-known .given k .fits) (head .loop .i) (c .loop-test .taken))
 
 add-i : tie.Need-add-i Inv-loop μ-loop
-add-i c = omega (arith, few-folds (now (c .before .before .before .before .before .before .before .before .args .file)) (c .before .before .before .before .before .before .before .before .args .contents) (c .before .before .before .before .before .before .before .before .pre))
+add-i c = omega (arith, few (start (c .before .before)))
 
 loop-less : tie.Need-loop-less Inv-loop μ-loop
 loop-less c = omega arith
 
 loop-again : tie.Need-loop-again Inv-loop μ-loop
-loop-again c = (
-  omega arith,
-  (
-    c .field-end .ensures ∙ next-place (now (c .before .before .before .before .before .before .before .before .args .file)) (c .before .before .before .before .before .before .before .before .args .contents) (c .before .before .before .before .before .before .before .before .pre) (λ k. c .before .before .before .before .before .before .before .shared-slice-known .given k .fits) (c .before .before .loop .i) (c .before .loop-test .taken) (c .before .before .loop .inv .1 .0),
-    (simp length-set (c .before .before .loop .inv .1 .1 .0), set-more (c .before .before .loop .places) (c .before .before .loop .i) (c .before .before .loop .place) (foldPlace (programIn (now (c .before .before .before .before .before .before .before .before .args .file)))) (omega (arith, few-folds (now (c .before .before .before .before .before .before .before .before .args .file)) (c .before .before .before .before .before .before .before .before .args .contents) (c .before .before .before .before .before .before .before .before .pre))) (c .before .before .loop .inv .1 .0) (c .before .before .loop .inv .1 .1 .1)),
-  ),
-)
+loop-again c =
+    let head = c .before .before in
+    let at = head .loop in
+    let s = start head in (
+      omega arith,
+      (
+        c .field-end .ensures ∙ next-place (now (s .args .file)) (s .args .contents) (s .pre) (λ k. known head .shared-slice-known .given k .fits) (at .i) (c .before .loop-test .taken) (at .inv .1 .0),
+        (simp length-set (at .inv .1 .1 .0), set-more (at .places) (at .i) (at .place) (foldPlace (program s)) (omega (arith, few s)) (at .inv .1 .0) (at .inv .1 .1 .1)),
+      ),
+    )
 
 returns : tie.Need-returns Inv-loop μ-loop
-returns c = record {
-  answer = c .before .before .before .before .before .before .before .pre;
-  at = λ fold h. c .before .loop .inv .1 .1 .1 fold (omega (arith, rules-count (programIn (now (c .before .before .before .before .before .before .before .args .file))), folds-counted (now (c .before .before .before .before .before .before .before .args .file)) (c .before .before .before .before .before .before .before .args .contents) (c .before .before .before .before .before .before .before .pre)));
-}
+returns c =
+    let s = start (c .before) in
+    record {
+      answer = s .pre;
+      at = λ fold h. c .before .loop .inv .1 .1 .1 fold (omega (arith, rules-count (program s), folds-counted (now (s .args .file)) (s .args .contents) (s .pre)));
+    }
 
 pub fold-places-spec : {M : Type 1} → statement M
 fold-places-spec =
