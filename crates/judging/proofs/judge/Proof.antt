@@ -3,38 +3,132 @@
 use borrow.Author.Needs.{needs}
 use borrow.Author.Tests.{not-true, not-false, ltb-true, ltb-false}
 use mathlib.Core.Path.{_≡_, sym, subst, _∙_}
-use mathlib.Core.Bool.{_&&_}
-use Prim.Native.Nat.{ℕ, _*_, _≤_}
+use mathlib.Core.Bool.{Bool, true, false, _&&_}
+use mathlib.Core.List.{List}
+use Prim.Native.Nat.{ℕ, _*_, _<_, _≤_}
 use native.Mathlib.Omega.{arith}
 use denote.Ref.{now}
 use lib.Dec.{ltb}
 use lib.ListN.{length}
+use Rattle.literals.specs.Numbering.{judged}
+use Rattle.papers.specs.declared.Contents.{Contents}
 use Rattle.papers.specs.declared.PapersRead.the-variants.{Accepted}
-use Rattle.papers.specs.Reading.{readPapers, programIn}
+use Rattle.papers.specs.Outcome.{accepted}
+use Rattle.papers.specs.Reading.{Papers, readFile, readPapers, programIn}
 use Rattle.papers.specs.Answers.{papersAnswer}
 use Rattle.papers.proofs.Answered.{papers-refused}
 use Rattle.papers.proofs.FoldAnswers.{told}
 use Rattle.papers.proofs.PapersAnswers.{BothTold, both-told}
+use Rattle.dual.specs.Answers.{dualOf, filled}
 use Rattle.dual.proofs.FileFacts.{program-valid, atoms-are}
 use Rattle.dual.proofs.BothPapers.{papersIn, both-read, both-asked, few-abducibles, few-literals, scenarios-are}
 use Rattle.dual.proofs.BothPapers.{other-told, dual-fits, dual-short, dual-stays, dual-kept, dual-filled}
 use Rattle.lanes.specs.FalseWords.{DualStarts}
 use Rattle.lanes.proofs.DroppedLaws.{filled-starts}
+use Rattle.judging.specs.Judging.{scenarioCount}
 use Rattle.judging.proofs.JudgingLaws.{judged-refused, judged-short, judged-small, judged-past, judged-done}
 use Rattle.judging.proofs.judge.Statement.{statement}
 use Rattle.judging.proofs.judge.Tie as tie
 
--- Both papers are accepted.
-answer : (c : tie.After-known-told)
-    → papersAnswer (readPapers (now (c .before .before .before .before .before .before .before .before .args .file)) (now (c .before .before .before .before .before .before .before .before .args .sheet))) ≡ Accepted (c .before .read .given .0 .0) (c .before .read .given .0 .1 .0)
-answer c = sym (c .before .before .before .read-papers .ensures) ∙ c .before .read .given .1
+-- ---- once both papers are accepted
 
-both : (c : tie.After-known-told)
-    → BothTold (now (c .before .before .before .before .before .before .before .before .args .file)) (now (c .before .before .before .before .before .before .before .before .args .sheet)) (c .before .read .given .0 .0) (c .before .read .given .0 .1 .0)
-both c = both-told (now (c .before .before .before .before .before .before .before .before .args .file)) (now (c .before .before .before .before .before .before .before .before .args .sheet)) _ _ (answer c)
+module _ (c : tie.After-known-told) where
+  abbrev asked : tie.After-read-papers
+  asked = c .before .before .before
 
-few : (c : tie.After-known-told) → c .before .read .given .0 .1 .0 ≤ 16
-few c = few-literals (both c) (answer c)
+  abbrev start : tie.Start
+  start = asked .before .before .before .before .before
+
+  abbrev contents : Contents
+  contents = c .before .read .given .0 .0
+
+  abbrev literals : ℕ
+  literals = c .before .read .given .0 .1 .0
+
+  answer : papersAnswer (readPapers (now (start .args .file)) (now (start .args .sheet))) ≡ Accepted contents literals
+  answer = sym (asked .read-papers .ensures) ∙ c .before .read .given .1
+
+  both : BothTold (now (start .args .file)) (now (start .args .sheet)) contents literals
+  both = both-told (now (start .args .file)) (now (start .args .sheet)) _ _ answer
+
+  few : literals ≤ 16
+  few = few-literals both answer
+
+  abbrev papers : Papers
+  papers = papersIn (now (start .args .file)) (now (start .args .sheet)) literals
+
+  read : readPapers (now (start .args .file)) (now (start .args .sheet)) ≡ accepted papers
+  read = both-read both (λ i. asked .before .before .before .shared-slice-known2 .given i .fits)
+
+  program : readFile (now (start .args .file)) ≡ accepted (papers .program)
+  program = told (now (start .args .file)) _ (both .answer) .is
+
+-- ---- once the dual is written
+
+module _ (c : tie.After-write-accepted) where
+  abbrev counted : tie.After-scenario-count
+  counted = c .before .before .before .before
+
+  abbrev taken : tie.After-known-told
+  taken = counted .before .before
+
+  abbrev scenario : ℕ
+  scenario = start taken .args .scenario
+
+  abbrev model : List ℕ
+  model = now (start taken .args .model)
+
+  -- The two tests that the code makes before it has the dual written.
+  abbrev room : Bool
+  room = ltb (2 * contents taken .atoms) (length model)
+
+  abbrev listed : Bool
+  listed = ltb scenario (counted .scenario-count .result)
+
+  small : room ≡ false → length model < judged (papers taken .program .atoms)
+  small e =
+      let same = atoms-are (now (start taken .args .file)) _ (both taken .answer) in
+      let less = ltb-false (2 * contents taken .atoms) (length model) e in
+      omega arith
+
+  large : room ≡ true → judged (papers taken .program .atoms) ≤ length model
+  large e =
+      let same = atoms-are (now (start taken .args .file)) _ (both taken .answer) in
+      let more = ltb-true (2 * contents taken .atoms) (length model) e in
+      omega arith
+
+  past : listed ≡ false → scenarioCount (papers taken .program) ≤ scenario
+  past e =
+      let total = scenarios-are (both taken) (counted .scenario-count .ensures) in
+      let above = ltb-false scenario (counted .scenario-count .result) e in
+      omega arith
+
+  there : listed ≡ true → scenario < scenarioCount (papers taken .program)
+  there e =
+      let total = scenarios-are (both taken) (counted .scenario-count .ensures) in
+      let below = ltb-true scenario (counted .scenario-count .result) e in
+      omega arith
+
+-- ---- once both tests are passed
+
+module _ (c : tie.Else2) where
+  abbrev written : tie.After-write-accepted
+  written = c .before .before .before .before .before .before
+
+  abbrev begun : tie.Start
+  begun = start (taken written)
+
+  big : room written ≡ true
+  big = not-false (room written) (c .before .if1 .left)
+
+  within : listed written ≡ true
+  within = not-false (listed written) (c .if2 .left)
+
+  fits : length (dualOf (papers (taken written) .program)) ≤ length (now (begun .args .dual))
+  fits = dual-fits (program (taken written)) (now (begun .args .dual)) (written .write-accepted .ensures .0) (c .before .before .enum-told2 .given .1)
+
+  dual-is : written .write-accepted .last .1 .1 .1 .0 ≡ filled (dualOf (papers (taken written) .program)) (now (begun .args .dual))
+  dual-is = dual-filled (program (taken written)) (room written && listed written) (now (begun .args .dual)) (written .write-accepted .ensures .1) (rw (big, within)) fits
 
 read-papers-requires : tie.Need-read-papers-requires
 read-papers-requires c κs = search needs
@@ -56,8 +150,9 @@ returns c = absurd (let e = c .enum-told .given .1 in let z : _≡_ {A = ℕ} 0 
 
 returns-2 : tie.Need-returns-2
 returns-2 c =
-    let a = c .before .before .before .before .before .before .before .before .before .before .before .args in
-    let e = papers-refused (readPapers (now (a .file)) (now (a .sheet))) (c .before .before .before .before .before .before .read-papers .ensures) (c .before .before .before .before .read2 .given .1 ∙ c .before .read3 .given .1) in
+    let asked = c .before .before .before .before .before .before in
+    let a = asked .before .before .before .before .before .args in
+    let e = papers-refused (readPapers (now (a .file)) (now (a .sheet))) (asked .read-papers .ensures) (c .before .before .before .before .read2 .given .1 ∙ c .before .read3 .given .1) in
     judged-refused e (a .scenario) (now (a .dual)) (now (a .model))
 
 cast-room : tie.Need-cast-room
@@ -83,60 +178,48 @@ same-length c = search needs
 
 returns-3 : tie.Need-returns-3
 returns-3 c =
-    let a = c .before .before .before .before .before .before .before .before .before .before .before .before .before .before .before .before .before .args in
-    let k = both (c .before .before .before .before .before .before .before .before .before) in
-    let w = c .before .before .before .write-accepted in
-    let program = told (now (a .file)) _ (k .answer) .is in
-    let room = ltb (2 * c .before .before .before .before .before .before .before .before .before .before .read .given .0 .0 .atoms) (length (now (a .model))) in
-    let listed = ltb (a .scenario) (c .before .before .before .before .before .before .before .scenario-count .result) in
-    let same = atoms-are (now (a .file)) _ (k .answer) in
-    let total = scenarios-are k (c .before .before .before .before .before .before .before .scenario-count .ensures) in
-    let short = dual-short program (now (a .dual)) (w .ensures .0) (other-told (w .result) (c .match3 .keys2)) in
-    judged-short (papersIn (now (a .file)) (now (a .sheet)) (c .before .before .before .before .before .before .before .before .before .before .read .given .0 .1 .0)) (both-read k (λ i. c .before .before .before .before .before .before .before .before .before .before .before .before .before .before .before .shared-slice-known2 .given i .fits)) (a .scenario) (now (a .dual)) (now (a .model)) short (dual-stays program (room && listed) (now (a .dual)) (w .ensures .1) short)
+    let w = c .before .before .before in
+    let p = taken w in
+    let a = start p .args in
+    let ensured = w .write-accepted .ensures in
+    let short = dual-short (program p) (now (a .dual)) (ensured .0) (other-told (w .write-accepted .result) (c .match3 .keys2)) in
+    judged-short (papers p) (read p) (a .scenario) (now (a .dual)) (now (a .model)) short
+    (dual-stays (program p) (room w && listed w) (now (a .dual)) (ensured .1) short)
 
 same-length-2 : tie.Need-same-length-2
 same-length-2 c = search needs
 
 returns-4 : tie.Need-returns-4
 returns-4 c =
-    let a = c .before .before .before .before .before .before .before .before .before .before .before .before .before .before .before .before .before .before .before .args in
-    let k = both (c .before .before .before .before .before .before .before .before .before .before .before) in
-    let w = c .before .before .before .before .before .write-accepted in
-    let program = told (now (a .file)) _ (k .answer) .is in
-    let room = ltb (2 * c .before .before .before .before .before .before .before .before .before .before .before .before .read .given .0 .0 .atoms) (length (now (a .model))) in
-    let listed = ltb (a .scenario) (c .before .before .before .before .before .before .before .before .before .scenario-count .result) in
-    let same = atoms-are (now (a .file)) _ (k .answer) in
-    let total = scenarios-are k (c .before .before .before .before .before .before .before .before .before .scenario-count .ensures) in
-    let small = not-true room (c .if1 .taken) in
-    let less = ltb-false (2 * c .before .before .before .before .before .before .before .before .before .before .before .before .read .given .0 .0 .atoms) (length (now (a .model))) small in
-    judged-small (papersIn (now (a .file)) (now (a .sheet)) (c .before .before .before .before .before .before .before .before .before .before .before .before .read .given .0 .1 .0)) (both-read k (λ i. c .before .before .before .before .before .before .before .before .before .before .before .before .before .before .before .before .before .shared-slice-known2 .given i .fits)) (a .scenario) (now (a .dual)) (now (a .model)) (dual-fits program (now (a .dual)) (w .ensures .0) (c .before .enum-told2 .given .1)) (omega arith)
-    (dual-kept program (room && listed) (now (a .dual)) (w .ensures .1) (rw small))
+    let w = c .before .before .before .before .before in
+    let p = taken w in
+    let a = start p .args in
+    let ensured = w .write-accepted .ensures in
+    let none = not-true (room w) (c .if1 .taken) in
+    judged-small (papers p) (read p) (a .scenario) (now (a .dual)) (now (a .model))
+    (dual-fits (program p) (now (a .dual)) (ensured .0) (c .before .enum-told2 .given .1)) (small w none)
+    (dual-kept (program p) (room w && listed w) (now (a .dual)) (ensured .1) (rw none))
 
 same-length-3 : tie.Need-same-length-3
 same-length-3 c = search needs
 
 returns-5 : tie.Need-returns-5
 returns-5 c =
-    let a = c .before .before .before .before .before .before .before .before .before .before .before .before .before .before .before .before .before .before .before .before .args in
-    let k = both (c .before .before .before .before .before .before .before .before .before .before .before .before) in
-    let w = c .before .before .before .before .before .before .write-accepted in
-    let program = told (now (a .file)) _ (k .answer) .is in
-    let room = ltb (2 * c .before .before .before .before .before .before .before .before .before .before .before .before .before .read .given .0 .0 .atoms) (length (now (a .model))) in
-    let listed = ltb (a .scenario) (c .before .before .before .before .before .before .before .before .before .before .scenario-count .result) in
-    let same = atoms-are (now (a .file)) _ (k .answer) in
-    let total = scenarios-are k (c .before .before .before .before .before .before .before .before .before .before .scenario-count .ensures) in
-    let big = not-false room (c .before .if1 .left) in
-    let many = ltb-true (2 * c .before .before .before .before .before .before .before .before .before .before .before .before .before .read .given .0 .0 .atoms) (length (now (a .model))) big in
-    let past = not-true listed (c .if2 .taken) in
-    let above = ltb-false (a .scenario) (c .before .before .before .before .before .before .before .before .before .before .scenario-count .result) past in
-    judged-past (papersIn (now (a .file)) (now (a .sheet)) (c .before .before .before .before .before .before .before .before .before .before .before .before .before .read .given .0 .1 .0)) (both-read k (λ i. c .before .before .before .before .before .before .before .before .before .before .before .before .before .before .before .before .before .before .shared-slice-known2 .given i .fits)) (a .scenario) (now (a .dual)) (now (a .model)) (dual-fits program (now (a .dual)) (w .ensures .0) (c .before .before .enum-told2 .given .1)) (omega arith) (omega arith)
-    (dual-kept program (room && listed) (now (a .dual)) (w .ensures .1) (rw (big, past)))
+    let w = c .before .before .before .before .before .before in
+    let p = taken w in
+    let a = start p .args in
+    let ensured = w .write-accepted .ensures in
+    let big = not-false (room w) (c .before .if1 .left) in
+    let none = not-true (listed w) (c .if2 .taken) in
+    judged-past (papers p) (read p) (a .scenario) (now (a .dual)) (now (a .model))
+    (dual-fits (program p) (now (a .dual)) (ensured .0) (c .before .before .enum-told2 .given .1)) (large w big) (past w none)
+    (dual-kept (program p) (room w && listed w) (now (a .dual)) (ensured .1) (rw (big, none)))
 
 mul-end : tie.Need-mul-end
-mul-end c = let few = few (c .before .before .before .before .before .before .before .before .before .before .before .before) in omega arith
+mul-end c = let f = few (taken (written c)) in omega arith
 
 add-end : tie.Need-add-end
-add-end c = let few = few (c .before .before .before .before .before .before .before .before .before .before .before .before) in omega arith
+add-end c = let f = few (taken (written c)) in omega arith
 
 sub-judge-accepted : tie.Need-sub-judge-accepted
 sub-judge-accepted c = search needs
@@ -145,30 +228,21 @@ part-judge-accepted-start : tie.Need-part-judge-accepted-start
 part-judge-accepted-start c = search needs
 
 part-judge-accepted-end : tie.Need-part-judge-accepted-end
-part-judge-accepted-end c = let w = both (c .before .before .before .before .before .before .before .before .before .before .before .before .before .before) .within in omega arith
+part-judge-accepted-end c = let k = both (taken (written (c .before .before))) .within in omega arith
 
 judge-accepted-requires : tie.Need-judge-accepted-requires
 judge-accepted-requires c κs =
-    let a = c .before .before .before .before .before .before .before .before .before .before .before .before .before .before .before .before .before .before .before .before .before .before .before .before .args in
-    let k = both (c .before .before .before .before .before .before .before .before .before .before .before .before .before .before .before .before) in
-    let w = c .before .before .before .before .before .before .before .before .before .before .write-accepted in
-    let program = told (now (a .file)) _ (k .answer) .is in
-    let room = ltb (2 * c .before .before .before .before .before .before .before .before .before .before .before .before .before .before .before .before .before .read .given .0 .0 .atoms) (length (now (a .model))) in
-    let listed = ltb (a .scenario) (c .before .before .before .before .before .before .before .before .before .before .before .before .before .before .scenario-count .result) in
-    let same = atoms-are (now (a .file)) _ (k .answer) in
-    let total = scenarios-are k (c .before .before .before .before .before .before .before .before .before .before .before .before .before .before .scenario-count .ensures) in
-    let big = not-false room (c .before .before .before .before .before .if1 .left) in
-    let many = ltb-true (2 * c .before .before .before .before .before .before .before .before .before .before .before .before .before .before .before .before .before .read .given .0 .0 .atoms) (length (now (a .model))) big in
-    let there = not-false listed (c .before .before .before .before .if2 .left) in
-    let below = ltb-true (a .scenario) (c .before .before .before .before .before .before .before .before .before .before .before .before .before .before .scenario-count .result) there in
-    let fits = (dual-fits program (now (a .dual)) (w .ensures .0) (c .before .before .before .before .before .before .enum-told2 .given .1)) in
-    let filled = dual-filled program (room && listed) (now (a .dual)) (w .ensures .1) (rw (big, there)) fits in (
+    let passed = c .before .before .before .before in
+    let w = written passed in
+    let p = taken w in
+    let a = start p .args in
+    let program = programIn (now (a .file)) in (
       record {
-        walked = c .before .before .before .before .before .before .before .before .before .before .before .before .before .fold-places .ensures;
-        starts = subst (DualStarts (programIn (now (a .file)))) (sym filled) (filled-starts (programIn (now (a .file))) (program-valid (now (a .file)) _ (k .answer)) (now (a .dual)));
-        asked = both-asked k (λ i. c .before .before .before .before .before .before .before .before .before .before .before .before .before .before .before .before .before .before .before .before .before .before .shared-slice-known2 .given i .fits);
+        walked = w .before .before .before .fold-places .ensures;
+        starts = subst (DualStarts program) (sym (dual-is passed)) (filled-starts program (program-valid (now (a .file)) _ (both p .answer)) (now (a .dual)));
+        asked = both-asked (both p) (λ i. asked p .before .before .before .shared-slice-known2 .given i .fits);
       },
-      omega arith,
+      large w (big passed),
     )
 
 same-length-4 : tie.Need-same-length-4
@@ -179,21 +253,13 @@ same-length-5 c = search needs
 
 returns-6 : tie.Need-returns-6
 returns-6 c =
-    let a = c .before .before .before .before .before .before .before .before .before .before .before .before .before .before .before .before .before .before .before .before .before .before .before .before .before .before .before .args in
-    let k = both (c .before .before .before .before .before .before .before .before .before .before .before .before .before .before .before .before .before .before .before) in
-    let w = c .before .before .before .before .before .before .before .before .before .before .before .before .before .write-accepted in
-    let program = told (now (a .file)) _ (k .answer) .is in
-    let room = ltb (2 * c .before .before .before .before .before .before .before .before .before .before .before .before .before .before .before .before .before .before .before .before .read .given .0 .0 .atoms) (length (now (a .model))) in
-    let listed = ltb (a .scenario) (c .before .before .before .before .before .before .before .before .before .before .before .before .before .before .before .before .before .scenario-count .result) in
-    let same = atoms-are (now (a .file)) _ (k .answer) in
-    let total = scenarios-are k (c .before .before .before .before .before .before .before .before .before .before .before .before .before .before .before .before .before .scenario-count .ensures) in
-    let big = not-false room (c .before .before .before .before .before .before .before .before .if1 .left) in
-    let many = ltb-true (2 * c .before .before .before .before .before .before .before .before .before .before .before .before .before .before .before .before .before .before .before .before .read .given .0 .0 .atoms) (length (now (a .model))) big in
-    let there = not-false listed (c .before .before .before .before .before .before .before .if2 .left) in
-    let below = ltb-true (a .scenario) (c .before .before .before .before .before .before .before .before .before .before .before .before .before .before .before .before .before .scenario-count .result) there in
-    let fits = (dual-fits program (now (a .dual)) (w .ensures .0) (c .before .before .before .before .before .before .before .before .before .enum-told2 .given .1)) in
-    let filled = dual-filled program (room && listed) (now (a .dual)) (w .ensures .1) (rw (big, there)) fits in
-    judged-done (papersIn (now (a .file)) (now (a .sheet)) (c .before .before .before .before .before .before .before .before .before .before .before .before .before .before .before .before .before .before .before .before .read .given .0 .1 .0)) (both-read k (λ i. c .before .before .before .before .before .before .before .before .before .before .before .before .before .before .before .before .before .before .before .before .before .before .before .before .before .shared-slice-known2 .given i .fits)) (a .scenario) (now (a .dual)) (now (a .model)) fits (omega arith) (omega arith) filled (c .before .before .judge-accepted .ensures .0) (c .before .before .judge-accepted .ensures .1)
+    let ensured = c .before .before .judge-accepted .ensures in
+    let passed = c .before .before .before .before .before .before .before in
+    let w = written passed in
+    let p = taken w in
+    let a = start p .args in
+    judged-done (papers p) (read p) (a .scenario) (now (a .dual)) (now (a .model))
+    (fits passed) (large w (big passed)) (there w (within passed)) (dual-is passed) (ensured .0) (ensured .1)
 
 pub judge-spec : {M : Type 1} → statement M
 judge-spec =

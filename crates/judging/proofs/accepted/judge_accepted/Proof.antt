@@ -1,8 +1,8 @@
 -- `judging::accepted::judge_accepted` meets its contract.
 -- Assumes nothing.
 use borrow.Author.Needs.{needs}
-use mathlib.Core.Path.{sym, subst}
-use Prim.Native.Nat.{ℕ}
+use mathlib.Core.Path.{_≡_, sym, subst}
+use Prim.Native.Nat.{ℕ, _≤_}
 use native.Mathlib.Omega.{arith}
 use denote.Ref.{now}
 use Rattle.papers.specs.Field.{numbers}
@@ -13,6 +13,21 @@ use Rattle.lanes.proofs.VerdictLaws.{query-listed, verdict-lanes}
 use Rattle.judging.proofs.JudgingLaws.{first-verdict, first-filled}
 use Rattle.judging.proofs.accepted.judge_accepted.Statement.{statement}
 use Rattle.judging.proofs.accepted.judge_accepted.Tie as tie
+
+-- ---- once the lanes are settled and the atoms are known
+
+module _ (c : tie.After-struct-known) where
+  abbrev settled : tie.After-settle
+  settled = c .before .before .before .before
+
+  abbrev start : tie.Start
+  start = settled .before .before .before .before .before
+
+  few : start .args .contents .atoms ≤ 256
+  few = few-atoms (now (start .args .file)) (start .args .contents) (start .pre .0 .walked .answer)
+
+  same : (programIn (now (start .args .file))) .atoms ≡ start .args .contents .atoms
+  same = atoms-are (now (start .args .file)) (start .args .contents) (start .pre .0 .walked .answer)
 
 settle-requires : tie.Need-settle-requires
 settle-requires c κs = let q = c .before .before .before .before .pre .0 in (q .walked, (q .starts, search needs))
@@ -28,20 +43,20 @@ add-count c = search needs
 
 write-values-requires : tie.Need-write-values-requires
 write-values-requires c κs =
-    let a = c .before .before .before .before .before .before .before .before .before .before .before .before .args in
-    let q = c .before .before .before .before .before .before .before .before .before .before .before .before .pre .0 in
-    let few = few-atoms (now (a .file)) (a .contents) (q .walked .answer) in
-    let same = atoms-are (now (a .file)) (a .contents) (q .walked .answer) in
-    let room = c .before .before .before .before .before .before .before .before .before .before .before .before .pre .1 in
+    let known = c .before .before .before in
+    let f = few known in
+    let e = same known in
+    let room = start known .pre .1 in
     (omega arith, omega arith)
 
 explained-lanes-requires : tie.Need-explained-lanes-requires
 explained-lanes-requires c κs =
-    let a = c .before .before .before .before .before .before .before .before .before .before .before .before .before .before .before .before .before .args in
-    let q = c .before .before .before .before .before .before .before .before .before .before .before .before .before .before .before .before .before .pre .0 in
-    let few = few-atoms (now (a .file)) (a .contents) (q .walked .answer) in
-    let same = atoms-are (now (a .file)) (a .contents) (q .walked .answer) in
-    (few, query-listed ((programIn (now (a .file))) .atoms) 256 (numbers (now (a .query))) (omega arith) (q .asked))
+    let written = c .before .before .before .before in
+    let known = written .before .before .before .before in
+    let a = start known .args in
+    let f = few known in
+    let e = same known in
+    (f, query-listed ((programIn (now (a .file))) .atoms) 256 (numbers (now (a .query))) (omega arith) (start known .pre .0 .asked))
 
 array-read-t27 : tie.Need-array-read-t27
 array-read-t27 c = search needs
@@ -51,14 +66,19 @@ same-length c = search needs
 
 returns : tie.Need-returns
 returns c =
-    let a = c .before .before .before .before .before .before .before .before .before .before .before .before .before .before .before .before .before .before .args in
-    let q = c .before .before .before .before .before .before .before .before .before .before .before .before .before .before .before .before .before .before .pre .0 in
-    let s = c .before .before .before .before .before .before .before .before .before .before .before .before .before .settle in
-    let same = atoms-are (now (a .file)) (a .contents) (q .walked .answer) in
-    let e = subst (λ (n : ℕ). ExplainedWord n (numbers (now (a .query))) (s .result .model .t) (s .result .model .f) (c .explained-lanes .result)) (sym same) (c .explained-lanes .ensures) in
-    let v = verdict-lanes (programIn (now (a .file))) (a .scenario) (s .result .model .t) (s .result .model .f) (s .result .rounds) (s .ensures .0) (numbers (now (a .query))) (c .explained-lanes .result) (q .asked) e in (
-      first-verdict (programIn (now (a .file))) (numbers (now (a .query))) (a .scenario) (c .explained-lanes .result) (s .result .rounds) v,
-      first-filled (programIn (now (a .file))) (a .scenario) (a .contents .atoms) (s .result .model .t) (s .result .model .f) (s .result .rounds) (now (a .model)) _ same (s .ensures .0) (c .before .before .before .before .before .write-values .ensures),
+    let written = c .before .before .before .before .before in
+    let known = written .before .before .before .before in
+    let a = start known .args in
+    let p = programIn (now (a .file)) in
+    let query = numbers (now (a .query)) in
+    let s = settled known .settle in
+    let trues = s .result .model .t in
+    let falses = s .result .model .f in
+    let explained = c .explained-lanes .result in
+    let e = subst (λ (n : ℕ). ExplainedWord n query trues falses explained) (sym (same known)) (c .explained-lanes .ensures) in
+    let v = verdict-lanes p (a .scenario) trues falses (s .result .rounds) (s .ensures .0) query explained (start known .pre .0 .asked) e in (
+      first-verdict p query (a .scenario) explained (s .result .rounds) v,
+      first-filled p (a .scenario) (a .contents .atoms) trues falses (s .result .rounds) (now (a .model)) _ (same known) (s .ensures .0) (written .write-values .ensures),
     )
 
 pub judge-accepted-spec : {M : Type 1} → statement M
