@@ -1,6 +1,6 @@
 -- `desk::output::write_accepted` meets its contract.
 -- Assumes nothing.
-use mathlib.Core.Path.{sym, subst}
+use mathlib.Core.Path.{_≡_, sym, subst, _∙_}
 use mathlib.Core.List.{List}
 use Prim.Native.Nat.{ℕ, _+_, _-_, _*_, _≤_}
 use native.Mathlib.Omega.{arith}
@@ -9,32 +9,68 @@ use denote.Ref.{now}
 use lib.ListN.{length, take, drop, length-take}
 use Rattle.papers.specs.Field.{numbers}
 use Rattle.papers.specs.Reading.{readPapers}
+use Rattle.papers.proofs.NumberLaws.{Bytes}
 use Rattle.search.specs.Searching.{problemOf}
-use Rattle.desk.specs.Search.{problemFor}
+use Rattle.desk.specs.Search.{AcceptedAs, problemFor}
 use Rattle.desk.specs.Output.{foundLines}
 use Rattle.desk.proofs.PaperLaws.{problem-is, small, program-valid, abducibles-below, listed-are, few-listed, atoms-told, listed-within, listed-there}
 use Rattle.desk.proofs.TextLaws.{few-found, lines-few, text-put, text-is}
 use Rattle.desk.proofs.output.write_accepted.Statement.{statement}
 use Rattle.desk.proofs.output.write_accepted.Tie as tie
 
--- The lines of the found entries are at most 95 bytes each.
-lines-long : (c : tie.After-search-all)
-    → length (foundLines (numbers (take (12 + 2 * c .before .before .before .before .before .before .before .before .before .args .contents .abducibles - 12) (drop 12 (now (c .before .before .before .before .before .before .before .before .before .args .file))))) (take (c .search-all .result .reached .found) (c .search-all .last .1 .1 .1 .0)))
-    ≤ 95 * length (c .search-all .last .1 .1 .1 .0)
-lines-long c =
-    let start = c .before .before .before .before .before .before .before .before .before in
-    let file = now (start .args .file) in
-    let sheet = now (start .args .sheet) in
-    let k = start .pre .0 in
-    let searched = c .search-all in
-    let list = searched .last .1 .1 .1 .0 in
-    let stands = rw (problem-is (k .is)) at (searched .ensures .0) in
-    let most = lines-few (problemOf (k .papers)) (small file sheet (k .is)) list (searched .result) stands (k .papers .program .abducibles) (abducibles-below file sheet (k .is)) (program-valid file sheet (k .is) .fewAbducibles) in
-    let there = listed-there file sheet (k .is) (k .told) (λ i. c .before .before .before .before .before .before .before .before .shared-slice-known .given i .fits) in
-    subst (λ (l : List ℕ). length (foundLines l (take (searched .result .reached .found) list)) ≤ 95 * length list) there most
-
 sixteen : (c : tie.Start) → c .args .contents .abducibles ≤ 16
 sixteen c = few-listed (now (c .args .file)) (now (c .args .sheet)) (c .pre .0 .is) (c .pre .0 .told)
+
+-- ---- once the search is over
+
+module _ (c : tie.After-search-all) where
+  abbrev counted : tie.After-scenario-count
+  counted = c .before .before .before
+
+  abbrev start : tie.Start
+  start = counted .before .before .before .before .before .before
+
+  abbrev file : List ℕ
+  file = now (start .args .file)
+
+  abbrev sheet : List ℕ
+  sheet = now (start .args .sheet)
+
+  abbrev both : AcceptedAs (readPapers file sheet) (start .args .contents)
+  both = start .pre .0
+
+  -- The list that the search left.
+  abbrev list : List ℕ
+  list = c .search-all .last .1 .1 .1 .0
+
+  long : length list ≡ 1024
+  long = c .search-all .kept .1 .1 .1 .0 ∙ start .pre .1 .1
+
+  -- The abducibles, as the code takes them from the file.
+  abbrev listed : List ℕ
+  listed = numbers (take (12 + 2 * start .args .contents .abducibles - 12) (drop 12 file))
+
+  abbrev bytes : Bytes file
+  bytes i = counted .before .before .before .before .before .shared-slice-known .given i .fits
+
+  there : both .papers .program .abducibles ≡ listed
+  there = listed-there file sheet (both .is) (both .told) bytes
+
+  -- The lines of the found entries are at most 95 bytes each.
+  lines-long : length (foundLines listed (take (c .search-all .result .reached .found) list)) ≤ 95 * length list
+  lines-long =
+      let stands = rw (problem-is (both .is)) at (c .search-all .ensures .0) in
+      let most = lines-few (problemOf (both .papers)) (small file sheet (both .is)) list (c .search-all .result) stands (both .papers .program .abducibles) (abducibles-below file sheet (both .is)) (program-valid file sheet (both .is) .fewAbducibles) in
+      subst (λ (l : List ℕ). length (foundLines l (take (c .search-all .result .reached .found) list)) ≤ 95 * length list) there most
+
+-- ---- once the heading is written
+
+module _ (c : tie.After-write-heading) where
+  abbrev reached : tie.After-reached
+  reached = c .before .before .before
+
+  abbrev searched : tie.After-search-all
+  searched = reached .before .before .before .before .before
 
 scenario-count-requires : tie.Need-scenario-count-requires
 scenario-count-requires c κs = sixteen (c .before .before .before .before .before)
@@ -46,7 +82,10 @@ add-end : tie.Need-add-end
 add-end c = let k = sixteen (c .before .before .before .before .before .before) in omega arith
 
 search-all-requires : tie.Need-search-all-requires
-search-all-requires c κs = let start = c .before .before .before .before .before .before .before .before in (record { papers = start .pre .0 .papers; is = start .pre .0 .is }, start .pre .1 .0)
+search-all-requires c κs =
+    let counted = c .before .before in
+    let start = counted .before .before .before .before .before .before in
+    (record { papers = start .pre .0 .papers; is = start .pre .0 .is }, start .pre .1 .0)
 
 cast-write-heading : tie.Need-cast-write-heading
 cast-write-heading c = search needs
@@ -68,21 +107,19 @@ part-write-found-lines-start c = search needs
 
 part-write-found-lines-end : tie.Need-part-write-found-lines-end
 part-write-found-lines-end c =
-    let start = c .before .before .before .before .before .before .before .before .before .before .before .before .before .before .before .before .before .before .before .before .before .before in
-    let t = listed-within (now (start .args .file)) (now (start .args .sheet)) (start .pre .0 .is) (start .pre .0 .told) (λ i. c .before .before .before .before .before .before .before .before .before .before .before .before .before .before .before .before .before .before .before .before .before .shared-slice-known .given i .fits) in
+    let s = searched (c .before .before .before .before .before) in
+    let t = listed-within (file s) (sheet s) (both s .is) (both s .told) (bytes s) in
     omega arith
 
 write-found-lines-requires : tie.Need-write-found-lines-requires
 write-found-lines-requires c κs =
-    let start = c .before .before .before .before .before .before .before .before .before .before .before .before .before .before .before .before .before .before .before .before .before .before .before in
-    let a = start .args in
-    let searched = c .before .before .before .before .before .before .before .before .before .before .before .before .before .before .search-all in
-    let few = few-found (problemFor (readPapers (now (a .file)) (now (a .sheet)))) (searched .last .1 .1 .1 .0) (searched .result) (searched .ensures .0) in
-    let size = searched .kept .1 .1 .1 .0 in
-    let most = start .pre .1 .1 in
-    let k = sixteen start in
-    let l = length-take (12 + 2 * a .contents .abducibles - 12) (drop 12 (now (a .file))) in
-    (c .before .before .before .before .before .before .write-heading .ensures .1, (few, (omega arith, omega arith)))
+    let heading = c .before .before .before .before .before .before in
+    let s = searched heading in
+    let few = few-found (problemFor (readPapers (file s) (sheet s))) (list s) (s .search-all .result) (s .search-all .ensures .0) in
+    let size = long s in
+    let most = sixteen (start s) in
+    let l = length-take (12 + 2 * start s .args .contents .abducibles - 12) (drop 12 (file s)) in
+    (heading .write-heading .ensures .1, (few, (omega arith, omega arith)))
 
 write-last-requires : tie.Need-write-last-requires
 write-last-requires c κs = search needs
@@ -98,25 +135,21 @@ same-length-3 c = search needs
 
 returns : tie.Need-returns
 returns c =
-    let start = c .before .before .before .before .before .before .before .before .before .before .before .before .before .before .before .before .before .before .before .before .before .before .before .before .before .before .before .before .before .before in
-    let file = now (start .args .file) in
-    let sheet = now (start .args .sheet) in
-    let k = start .pre .0 in
-    let searched = c .before .before .before .before .before .before .before .before .before .before .before .before .before .before .before .before .before .before .before .before .before .search-all in
-    let heading = c .before .before .before .before .before .before .before .before .before .before .before .before .before .write-heading in
-    let found = c .before .before .before .before .before .before .write-found-lines in
-    let last = c .before .before .write-last in
-    let there = listed-there file sheet (k .is) (k .told) (λ i. c .before .before .before .before .before .before .before .before .before .before .before .before .before .before .before .before .before .before .before .before .before .before .before .before .before .before .before .before .before .shared-slice-known .given i .fits) in
+    let ended = c .before .before in
+    let found = ended .before .before .before .before in
+    let heading = found .before .before .before .before .before .before .before in
+    let s = searched heading in
+    let told = both s .told in
+    let is = both s .is in
     let text =
-    text-put (k .is) (searched .ensures .0) (searched .ensures .1) (atoms-told file sheet (k .is) (k .told)) (listed-are file sheet (k .is) (k .told)) (sym (c .before .before .before .before .before .before .before .before .before .before .before .before .before .before .before .before .before .before .before .before .before .before .before .before .scenario-count .ensures)) there
-    (heading .ensures .0) (found .ensures .0) (last .ensures .0) in
-    let lines = lines-long (c .before .before .before .before .before .before .before .before .before .before .before .before .before .before .before .before .before .before .before .before .before) in
-    let size = searched .kept .1 .1 .1 .0 in
-    let most = start .pre .1 .1 in
-    let p = found .ensures .0 .place in
-    let x = heading .ensures .1 in
-    let y = last .ensures .1 in
-    (rw (text-is (k .is) most) at text, omega arith)
+    text-put is (s .search-all .ensures .0) (s .search-all .ensures .1) (atoms-told (file s) (sheet s) is told) (listed-are (file s) (sheet s) is told) (sym (counted s .scenario-count .ensures)) (there s)
+    (heading .write-heading .ensures .0) (found .write-found-lines .ensures .0) (ended .write-last .ensures .0) in
+    let lines = lines-long s in
+    let size = long s in
+    let p = found .write-found-lines .ensures .0 .place in
+    let x = heading .write-heading .ensures .1 in
+    let y = ended .write-last .ensures .1 in
+    (rw (text-is is (start s .pre .1 .1)) at text, omega arith)
 
 pub write-accepted-spec : {M : Type 1} → statement M
 write-accepted-spec =

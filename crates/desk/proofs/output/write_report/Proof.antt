@@ -37,15 +37,20 @@ same-length c = search needs
 returns-2 : tie.Need-returns-2
 unfolding deskText
 returns-2 c =
-    let a = c .before .before .before .before .before .before .before .before .before .before .before .before .before .before .before .before .args in
-    let e = papers-refused (readPapers (now (a .file)) (now (a .sheet))) (c .before .before .before .before .before .before .before .before .before .before .read-papers .ensures) (c .before .before .before .before .before .before .before .before .read2 .given .1 ∙ c .before .before .before .before .before .read3 .given .1) in
+    let refused = c .before .before .before .before .before in
+    let other = refused .before .before .before in
+    let read = other .before .before in
+    let a = read .before .before .before .before .before .before .args in
+    let e = papers-refused (readPapers (now (a .file)) (now (a .sheet))) (read .read-papers .ensures) (other .read2 .given .1 ∙ refused .read3 .given .1) in
     let put = c .before .before .write-refused .ensures in
     (rw e (put .0), let m = put .1 in omega arith)
 
 write-accepted-requires : tie.Need-write-accepted-requires
 write-accepted-requires c κs =
-    let start = c .before .before .before .before .before .before .before .before .before .before .before .before in
-    let q = papers-accepted (readPapers (now (start .args .file)) (now (start .args .sheet))) (c .before .before .before .before .before .before .read-papers .ensures) (c .before .before .before .before .read .given .1) in
+    let accepted = c .before .before .before .before in
+    let read = accepted .before .before in
+    let start = read .before .before .before .before .before .before in
+    let q = papers-accepted (readPapers (now (start .args .file)) (now (start .args .sheet))) (read .read-papers .ensures) (accepted .read .given .1) in
     (record { papers = q .papers; is = q .is; told = q .told }, (start .pre .0, start .pre .1))
 
 same-length-2 : tie.Need-same-length-2

@@ -1,16 +1,20 @@
 -- `desk::searching::go_on` meets its contract. Papers and buffer are such that the call reports.
 -- Assumes nothing.
 use mathlib.Core.Path.{_≡_, sym, ap, _∙_}
+use mathlib.Core.List.{List}
 use mathlib.Core.Logic.{_⊎_, inl, inr}
-use Prim.Native.Nat.{ℕ}
+use Prim.Native.Nat.{ℕ, _≤_}
 use native.Mathlib.Omega.{arith}
 use borrow.Author.Needs.{needs}
 use denote.Ref.{now}
 use denote.Enum.Declared.{tagOf}
 use lib.ListN.{length}
 use Rattle.papers.specs.Reading.{readPapers}
+use Rattle.dual.specs.Answers.{dualOf}
+use Rattle.search.specs.declared.Continued.{Continued}
+use Rattle.search.specs.Searching.{continueAnswer}
 use Rattle.search.proofs.Continued.{the-type}
-use Rattle.desk.specs.Search.{problemFor}
+use Rattle.desk.specs.Search.{Accepted, problemFor}
 use Rattle.desk.proofs.PaperLaws.{small, dual-few}
 use Rattle.desk.proofs.CallLaws.{Called, answer-is, called}
 use Rattle.desk.proofs.searching.go_on.Statement.{statement}
@@ -22,17 +26,47 @@ never e (inl h) = omega arith
 never e (inr (inl h)) = omega arith
 never e (inr (inr h)) = omega arith
 
--- The call has reported.
-made : (c : tie.After-known-told)
-    → Called (problemFor (readPapers (now (c .before .before .before .before .before .before .before .before .before .before .before .before .before .before .before .args .file)) (now (c .before .before .before .before .before .before .before .before .before .before .before .before .before .before .before .args .sheet)))) (now (c .before .before .before .before .before .before .before .before .before .before .before .before .before .before .before .args .list)) (c .before .before .before .before .before .before .before .before .before .before .before .before .before .before .before .args .before) (c .before .continued .given .0 .0) (c .before .before .before .before .before .before .before .continue-search .last .1 .1 .1 .0)
-made c =
-    let start = c .before .before .before .before .before .before .before .before .before .before .before .before .before .before .before in
-    let a = start .args in
-    let papers = start .pre .0 in
-    let call = c .before .before .before .before .before .before .before .continue-search in
-    let fits = dual-few (now (a .file)) (now (a .sheet)) (papers .is) in
-    called (papers .is) (small (now (a .file)) (now (a .sheet)) (papers .is)) (length (now (a .dual))) (let h = start .pre .1 .0 in omega arith) (now (a .list)) (a .before) (start .pre .1 .1)
-    (sym (c .before .continued .given .1) ∙ call .ensures .0) (call .ensures .1 .1)
+-- ---- once the search has answered
+
+module _ (c : tie.After-continue-search) where
+  abbrev from : tie.After-from
+  from = c .before .before .before
+
+  abbrev start : tie.Start
+  start = from .before .before .before .before .before
+
+  abbrev file : List ℕ
+  file = now (start .args .file)
+
+  abbrev sheet : List ℕ
+  sheet = now (start .args .sheet)
+
+  abbrev list : List ℕ
+  list = now (start .args .list)
+
+  abbrev both : Accepted (readPapers file sheet)
+  both = start .pre .0
+
+  enough : length (dualOf (both .papers .program)) ≤ length (now (start .args .dual))
+  enough = let fits = dual-few file sheet (both .is) in let h = start .pre .1 .0 in omega arith
+
+  abbrev answer : Continued
+  answer = continueAnswer (readPapers file sheet) 4096 (length (now (start .args .dual))) (start .args .before .reached) list
+
+  answered : c .continue-search .result ≡ answer
+  answered = c .continue-search .ensures .0
+
+-- ---- once it has reported
+
+module _ (c : tie.After-known-told) where
+  abbrev asked : tie.After-continue-search
+  asked = c .before .before .before .before .before .before .before
+
+  made : Called (problemFor (readPapers (file asked) (sheet asked))) (list asked) (start asked .args .before) (c .before .continued .given .0 .0) (asked .continue-search .last .1 .1 .1 .0)
+  made =
+      let s = asked in
+      called (both s .is) (small (file s) (sheet s) (both s .is)) (length (now (start s .args .dual))) (enough s) (list s) (start s .args .before) (start s .pre .1 .1)
+      (sym (c .before .continued .given .1) ∙ answered s) (s .continue-search .ensures .1 .1)
 
 continue-search-requires : tie.Need-continue-search-requires
 continue-search-requires c κs = search needs
@@ -48,12 +82,9 @@ same-length-2 c = search needs
 
 returns : tie.Need-returns
 returns c =
-    let start = c .before .before .before .before .before .before .before .before .before .before .before .before .before in
-    let a = start .args in
-    let papers = start .pre .0 in
-    let fits = dual-few (now (a .file)) (now (a .sheet)) (papers .is) in
-    let is = answer-is (papers .is) (small (now (a .file)) (now (a .sheet)) (papers .is)) (length (now (a .dual))) (let h = start .pre .1 .0 in omega arith) (now (a .list)) (a .before) (start .pre .1 .1) in
-    absurd (never (ap (tagOf the-type) (c .before .before .before .before .before .continue-search .ensures .0 ∙ is)) (c .match .keys2))
+    let s = c .before .before .before .before .before in
+    let is = answer-is (both s .is) (small (file s) (sheet s) (both s .is)) (length (now (start s .args .dual))) (enough s) (list s) (start s .args .before) (start s .pre .1 .1) in
+    absurd (never (ap (tagOf the-type) (answered s ∙ is)) (c .match .keys2))
 
 cast-t15 : tie.Need-cast-t15
 cast-t15 c = search needs
@@ -71,7 +102,7 @@ same-length-4 : tie.Need-same-length-4
 same-length-4 c = search needs
 
 returns-2 : tie.Need-returns-2
-returns-2 c = (made (c .before .before .before .before .before) .stands, made (c .before .before .before .before .before) .gone)
+returns-2 c = let m = made (c .before .before .before .before .before) in (m .stands, m .gone)
 
 pub go-on-spec : {M : Type 1} → statement M
 go-on-spec =

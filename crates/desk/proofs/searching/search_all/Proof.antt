@@ -8,7 +8,8 @@ use borrow.Author.Needs.{needs}
 use denote.Ref.{now}
 use lib.ListN.{length}
 use Rattle.papers.specs.Reading.{readPapers}
-use Rattle.steps.specs.Scenarios.{stop}
+use Rattle.steps.specs.Scenarios.{Problem, stop}
+use Rattle.desk.specs.declared.searching.Progress.{Progress}
 use Rattle.desk.specs.Search.{problemFor, Stands, GoneOn, Finished}
 use Rattle.desk.proofs.TurnLaws.{left, Turned, turned, begins}
 use Rattle.desk.proofs.searching.search_all.Statement.{statement}
@@ -23,19 +24,36 @@ Inv-loop file sheet dual₀ list₀ progress₀ going₀ dual list progress goin
 abbrev μ-loop : tie.MeasureT-loop
 μ-loop file sheet dual₀ list₀ progress₀ going₀ dual list progress going = left (problemFor (readPapers file sheet)) progress going
 
--- One turn.
-turn : (c : tie.After-is-going Inv-loop μ-loop)
-    → Turned (problemFor (readPapers (now (c .before .before .before .before .before .before .before .before .before .before .before .before .before .before .before .args .file)) (now (c .before .before .before .before .before .before .before .before .before .before .before .before .before .before .before .args .sheet)))) (length (now (c .before .before .before .before .before .before .before .before .before .before .before .before .before .before .before .args .list))) (c .before .before .before .before .before .before .before .before .before .loop .progress) (c .before .before .before .before .before .go-on .result) (c .is-going .result)
-turn c =
-    let a = c .before .before .before .before .before .before .before .before .before .before .before .before .before .before .before .args in
-    let l = c .before .before .before .before .before .before .before .before .before .loop in
-    let g = c .before .before .before .before .before .go-on in
-    let P = problemFor (readPapers (now (a .file)) (now (a .sheet))) in
-    let L = length (now (a .list)) in
-    let e = l .inv .1 .1 .1 in
-    let within = subst (λ (n : ℕ). l .progress .reached .position ≤ stop P n) e (l .inv .0 .within) in
-    let gone = subst (λ (n : ℕ). GoneOn P n (l .progress) (g .result)) e (g .ensures .1) in
-    subst (Turned P L (l .progress) (g .result)) (sym (c .is-going .ensures)) (turned P L (l .progress) (g .result) within gone)
+-- ---- once a turn's call is made
+
+module _ (c : tie.After-is-going Inv-loop μ-loop) where
+  abbrev called : tie.After-go-on Inv-loop μ-loop
+  called = c .before .before .before .before .before
+
+  abbrev going : tie.In-loop Inv-loop μ-loop
+  going = called .before .before .before
+
+  abbrev head : tie.At-loop Inv-loop μ-loop
+  head = going .before
+
+  abbrev start : tie.Start Inv-loop μ-loop
+  start = head .before .before .before .before .before .before
+
+  abbrev problem : Problem
+  problem = problemFor (readPapers (now (start .args .file)) (now (start .args .sheet)))
+
+  abbrev progress : Progress
+  progress = called .go-on .result
+
+  -- One turn.
+  turn : Turned problem (length (now (start .args .list))) (head .loop .progress) progress (c .is-going .result)
+  turn =
+      let L = length (now (start .args .list)) in
+      let was = head .loop .progress in
+      let e = head .loop .inv .1 .1 .1 in
+      let within = subst (λ (n : ℕ). was .reached .position ≤ stop problem n) e (head .loop .inv .0 .within) in
+      let gone = subst (λ (n : ℕ). GoneOn problem n was progress) e (called .go-on .ensures .1) in
+      subst (Turned problem L was progress) (sym (c .is-going .ensures)) (turned problem L was progress within gone)
 
 fresh-requires : tie.Need-fresh-requires Inv-loop μ-loop
 fresh-requires c κs = search needs
@@ -49,21 +67,22 @@ loop-holds c =
 
 go-on-requires : tie.Need-go-on-requires Inv-loop μ-loop
 go-on-requires c κs =
-    let start = c .before .before .before .before .before .before .before .before .before in
-    let l = c .before .before .before .loop in
-    (start .pre .0, (let e = l .inv .1 .1 .0 in let h = start .pre .1 in omega arith, l .inv .0))
+    let head = c .before .before .before in
+    let start = head .before .before .before .before .before .before in
+    (start .pre .0, (let e = head .loop .inv .1 .1 .0 in let h = start .pre .1 in omega arith, head .loop .inv .0))
 
 is-going-requires : tie.Need-is-going-requires Inv-loop μ-loop
 is-going-requires c κs = search needs
 
 loop-less : tie.Need-loop-less Inv-loop μ-loop
-loop-less c = subst (λ (x : Bool). left (problemFor (readPapers (now (c .before .before .before .before .before .before .before .before .before .before .before .before .before .before .before .args .file)) (now (c .before .before .before .before .before .before .before .before .before .before .before .before .before .before .before .args .sheet)))) (c .before .before .before .before .before .go-on .result) (c .is-going .result) < left (problemFor (readPapers (now (c .before .before .before .before .before .before .before .before .before .before .before .before .before .before .before .args .file)) (now (c .before .before .before .before .before .before .before .before .before .before .before .before .before .before .before .args .sheet)))) (c .before .before .before .before .before .before .before .before .before .loop .progress) x) (sym (c .before .before .before .before .before .before .before .before .loop-test .taken)) (turn c .nearer)
+loop-less c =
+    subst (λ (b : Bool). left (problem c) (progress c) (c .is-going .result) < left (problem c) (head c .loop .progress) b) (sym (going c .loop-test .taken)) (turn c .nearer)
 
 loop-again : tie.Need-loop-again Inv-loop μ-loop
 loop-again c =
-    let l = c .before .before .before .before .before .before .before .before .before .loop in
-    let g = c .before .before .before .before .before .go-on in
-    (g .ensures .0, (turn c .finished, (g .kept .1 .1 .0 ∙ l .inv .1 .1 .0, g .kept .1 .1 .1 .0 ∙ l .inv .1 .1 .1)))
+    let inv = head c .loop .inv .1 .1 in
+    let call = called c .go-on in
+    (call .ensures .0, (turn c .finished, (call .kept .1 .1 .0 ∙ inv .0, call .kept .1 .1 .1 .0 ∙ inv .1)))
 
 same-length : tie.Need-same-length Inv-loop μ-loop
 same-length c = c .before .loop .inv .1 .1 .0
