@@ -37,15 +37,19 @@ same-length c = search needs
 returns : tie.Need-returns
 unfolding headingLine further
 returns c =
-    let a = c .before .before .before .before .before .before .before .before .before .before .before .before .before .before .before .before .before .before .before .before .args in
+    let ended = c .before .before in
+    let scenarios = ended .before .before .before .before in
+    let abducibles = scenarios .before .before .before .before .before in
+    let atoms = abducibles .before .before .before .before .before in
+    let a = atoms .before .before .before .before .args in
     let n = decimal (a .atoms) in
     let k = decimal (a .abducibles) in
     let s = decimal (a .scenarios) in
     let l = left-line (a .at) atomsWord (n ∷ abduciblesWord ∷ k ∷ scenariosWord ∷ s ∷ []) (now (a .buffer)) in
-    let m = left-after (atomsWord ++ 32 ∷ n) (further (abduciblesWord ∷ k ∷ scenariosWord ∷ s ∷ [])) (c .before .before .before .before .before .before .before .before .before .before .before .before .before .before .before .before .put-number .ensures .0) l in
-    let o = left-after (32 ∷ abduciblesWord ++ 32 ∷ k) (further (scenariosWord ∷ s ∷ [])) (c .before .before .before .before .before .before .before .before .before .before .before .put-number2 .ensures .0) m in
-    let p = left-after (32 ∷ scenariosWord ++ 32 ∷ s) (further []) (c .before .before .before .before .before .before .put-number3 .ensures .0) o in
-    (left-none (left-after (10 ∷ []) [] (c .before .before .put-byte .ensures) p), omega arith)
+    let m = left-after (atomsWord ++ 32 ∷ n) (further (abduciblesWord ∷ k ∷ scenariosWord ∷ s ∷ [])) (atoms .put-number .ensures .0) l in
+    let o = left-after (32 ∷ abduciblesWord ++ 32 ∷ k) (further (scenariosWord ∷ s ∷ [])) (abducibles .put-number2 .ensures .0) m in
+    let p = left-after (32 ∷ scenariosWord ++ 32 ∷ s) (further []) (scenarios .put-number3 .ensures .0) o in
+    (left-none (left-after (10 ∷ []) [] (ended .put-byte .ensures) p), omega arith)
 
 pub write-heading-spec : {M : Type 1} → statement M
 write-heading-spec =

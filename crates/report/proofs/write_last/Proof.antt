@@ -34,14 +34,18 @@ same-length c = search needs
 returns : tie.Need-returns
 unfolding lastLine further
 returns c =
-    let a = c .before .before .before .before .before .before .before .before .before .before .before .before .before .before .before .before .before .before .before .args in
+    let ended = c .before .before in
+    let rounds = ended .before .before .before .before in
+    let tried = rounds .before .before .before .before .before in
+    let stated = tried .before .before .before .before .before in
+    let a = stated .before .before .before .args in
     let t = decimal (a .tried) in
     let r = decimal (a .rounds) in
     let l = left-line (a .at) (stateWord (a .state)) (triedWord ∷ t ∷ roundsWord ∷ r ∷ []) (now (a .buffer)) in
-    let m = left-after (stateWord (a .state)) (further (triedWord ∷ t ∷ roundsWord ∷ r ∷ [])) (c .before .before .before .before .before .before .before .before .before .before .before .before .before .before .before .before .put-state .ensures .0) l in
-    let o = left-after (32 ∷ triedWord ++ 32 ∷ t) (further (roundsWord ∷ r ∷ [])) (c .before .before .before .before .before .before .before .before .before .before .before .put-number .ensures .0) m in
-    let p = left-after (32 ∷ roundsWord ++ 32 ∷ r) (further []) (c .before .before .before .before .before .before .put-number2 .ensures .0) o in
-    (left-none (left-after (10 ∷ []) [] (c .before .before .put-byte .ensures) p), omega arith)
+    let m = left-after (stateWord (a .state)) (further (triedWord ∷ t ∷ roundsWord ∷ r ∷ [])) (stated .put-state .ensures .0) l in
+    let o = left-after (32 ∷ triedWord ++ 32 ∷ t) (further (roundsWord ∷ r ∷ [])) (tried .put-number .ensures .0) m in
+    let p = left-after (32 ∷ roundsWord ++ 32 ∷ r) (further []) (rounds .put-number2 .ensures .0) o in
+    (left-none (left-after (10 ∷ []) [] (ended .put-byte .ensures) p), omega arith)
 
 pub write-last-spec : {M : Type 1} → statement M
 write-last-spec =
