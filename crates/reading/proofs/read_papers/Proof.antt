@@ -1,6 +1,8 @@
 -- `reading::read_papers` meets its contract.
 -- Assumes nothing.
 use mathlib.Core.Path.{_∙_}
+use mathlib.Core.List.{List}
+use Prim.Native.Nat.{ℕ}
 use denote.Ref.{now}
 use Rattle.papers.specs.Reading.{readFile}
 use Rattle.papers.proofs.Answered.{Filed, file-accepted, file-refused, count-accepted, count-refused}
@@ -9,9 +11,23 @@ use borrow.Author.Needs.{needs}
 use Rattle.reading.proofs.read_papers.Statement.{statement}
 use Rattle.reading.proofs.read_papers.Tie as tie
 
--- The file was accepted.
-filed : (c : tie.After-known-told) → Filed (readFile (now (c .before .before .before .before .before .before .args .file))) (c .before .program .given .0 .0)
-filed c = file-accepted _ (c .before .before .before .read-file .ensures) (c .before .program .given .1)
+-- ---- once the file is accepted
+
+module _ (c : tie.After-known-told) where
+  abbrev asked : tie.After-read-file
+  asked = c .before .before .before
+
+  abbrev start : tie.Start
+  start = asked .before .before .before
+
+  abbrev file : List ℕ
+  file = now (start .args .file)
+
+  abbrev sheet : List ℕ
+  sheet = now (start .args .sheet)
+
+  filed : Filed (readFile file) (c .before .program .given .0 .0)
+  filed = file-accepted _ (asked .read-file .ensures) (c .before .program .given .1)
 
 read-file-requires : tie.Need-read-file-requires
 read-file-requires c κs = search needs
@@ -32,7 +48,10 @@ returns : tie.Need-returns
 returns c = search needs
 
 returns-2 : tie.Need-returns-2
-returns-2 c = papers-file (now (c .before .before .before .before .before .before .before .before .before .args .file)) (now (c .before .before .before .before .before .before .before .before .before .args .sheet)) (file-refused _ (c .before .before .before .before .before .before .read-file .ensures) (c .before .before .before .before .program2 .given .1 ∙ c .before .program3 .given .1))
+returns-2 c =
+    let asked = c .before .before .before .before .before .before in
+    let a = asked .before .before .before .args in
+    papers-file (now (a .file)) (now (a .sheet)) (file-refused _ (asked .read-file .ensures) (c .before .before .before .before .program2 .given .1 ∙ c .before .program3 .given .1))
 
 read-sheet-requires : tie.Need-read-sheet-requires
 read-sheet-requires c κs = search needs
@@ -53,10 +72,16 @@ returns-3 : tie.Need-returns-3
 returns-3 c = search needs
 
 returns-4 : tie.Need-returns-4
-returns-4 c = papers-sheet (now (c .before .before .before .before .before .before .before .before .before .before .before .before .before .args .file)) (now (c .before .before .before .before .before .before .before .before .before .before .before .before .before .args .sheet)) (filed (c .before .before .before .before .before .before .before)) (count-refused _ (c .before .before .before .before .before .before .read-sheet .ensures) (c .before .before .before .before .query2 .given .1 ∙ c .before .query3 .given .1))
+returns-4 c =
+    let asked = c .before .before .before .before .before .before in
+    let f = asked .before in
+    papers-sheet (file f) (sheet f) (filed f) (count-refused _ (asked .read-sheet .ensures) (c .before .before .before .before .query2 .given .1 ∙ c .before .query3 .given .1))
 
 returns-5 : tie.Need-returns-5
-returns-5 c = papers-both (now (c .before .before .before .before .before .before .before .before .before .before .args .file)) (now (c .before .before .before .before .before .before .before .before .before .before .args .sheet)) (filed (c .before .before .before .before)) (count-accepted _ (c .before .before .before .read-sheet .ensures) (c .before .query .given .1))
+returns-5 c =
+    let asked = c .before .before .before in
+    let f = asked .before in
+    papers-both (file f) (sheet f) (filed f) (count-accepted _ (asked .read-sheet .ensures) (c .before .query .given .1))
 
 pub read-papers-spec : {M : Type 1} → statement M
 read-papers-spec =

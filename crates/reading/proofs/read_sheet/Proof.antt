@@ -2,6 +2,7 @@
 -- Assumes nothing.
 use mathlib.Core.Path.{_≡_, sym, ap, _∙_}
 use mathlib.Core.Bool.{false}
+use mathlib.Core.List.{List}
 use Prim.Native.Nat.{ℕ, _+_, _-_, _/_}
 use native.Mathlib.Omega.{arith}
 use lib.ListN.{length, take, drop}
@@ -16,13 +17,27 @@ use borrow.Author.Needs.{needs}
 use Rattle.reading.proofs.read_sheet.Statement.{statement}
 use Rattle.reading.proofs.read_sheet.Tie as tie
 
--- The field is whole.
-field : (c : tie.After-known-told) → Got Sheet 0x06 false 0 (now (c .before .before .before .before .before .args .sheet)) (c .before .got .given .0 .0) (c .before .got .given .0 .1 .0)
-field c = got-content Sheet 0x06 false 0 (now (c .before .before .before .before .before .args .sheet)) (c .before .before .before .read-field .ensures) _ _ (c .before .got .given .1)
+-- ---- once the field is whole
 
--- It ends where the next one is read.
-ends : (c : tie.After-known-told) → c .before .got .given .0 .1 .0 ≡ 3 + length (take (c .before .got .given .0 .1 .0 - c .before .got .given .0 .0) (drop (c .before .got .given .0 .0) (now (c .before .before .before .before .before .args .sheet))))
-ends c = let f = field c in omega (arith, f .starts, f .sized, f .ordered)
+module _ (c : tie.After-known-told) where
+  abbrev start : tie.Start
+  start = c .before .before .before .before .before
+
+  abbrev sheet : List ℕ
+  sheet = now (start .args .sheet)
+
+  abbrev from : ℕ
+  from = c .before .got .given .0 .0
+
+  abbrev end : ℕ
+  end = c .before .got .given .0 .1 .0
+
+  field : Got Sheet 0x06 false 0 sheet from end
+  field = got-content Sheet 0x06 false 0 sheet (c .before .before .before .read-field .ensures) _ _ (c .before .got .given .1)
+
+  -- It ends where the next one is read.
+  ends : end ≡ 3 + length (take (end - from) (drop from sheet))
+  ends = let f = field in omega (arith, f .starts, f .sized, f .ordered)
 
 read-field-requires : tie.Need-read-field-requires
 read-field-requires c κs = search needs
@@ -44,7 +59,9 @@ returns c = search needs
 
 returns-2 : tie.Need-returns-2
 unfolding readSheet
-returns-2 c = rw (got-refused Sheet 0x06 false 0 (now (c .before .before .before .before .before .before .before .before .args .sheet)) (c .before .before .before .before .before .before .read-field .ensures) (c .before .before .before .before .got2 .given .1 ∙ c .before .got3 .given .1))
+returns-2 c =
+    let asked = c .before .before .before .before .before .before in
+    rw (got-refused Sheet 0x06 false 0 (now (asked .before .before .args .sheet)) (asked .read-field .ensures) (c .before .before .before .before .got2 .given .1 ∙ c .before .got3 .given .1))
 
 sub-literals-fault : tie.Need-sub-literals-fault
 sub-literals-fault c = omega (arith, field c .ordered)
@@ -59,7 +76,9 @@ literals-fault-requires : tie.Need-literals-fault-requires
 literals-fault-requires c κs = search needs
 
 returns-3 : tie.Need-returns-3
-returns-3 c = sheet-fault (c .before .before .before .before .before .before .before .before .args .atoms) (now (c .before .before .before .before .before .before .before .before .args .sheet)) _ (field (c .before .before .before) .read) (c .before .literals-fault .ensures) (c .if1 .taken)
+returns-3 c =
+    let whole = c .before .before .before in
+    sheet-fault (start whole .args .atoms) (sheet whole) _ (field whole .read) (c .before .literals-fault .ensures) (c .if1 .taken)
 
 read-end-requires : tie.Need-read-end-requires
 read-end-requires c κs = field (c .before .before .before) .within
@@ -71,13 +90,25 @@ enum-told-3 : tie.Need-enum-told-3
 enum-told-3 c = search needs
 
 returns-4 : tie.Need-returns-4
-returns-4 c = c .enum-told3 .given .1 ∙ sheet-end (c .before .before .before .before .before .before .before .before .before .before .before .args .atoms) (now (c .before .before .before .before .before .before .before .before .before .before .before .args .sheet)) _ (field (c .before .before .before .before .before .before) .read) (c .before .before .before .before .literals-fault .ensures) (c .before .before .before .if1 .left) (ends (c .before .before .before .before .before .before)) (number-refused _ (c .before .before .read-end .ensures) (c .enum-told3 .given .1))
+returns-4 c =
+    let tested = c .before .before .before in
+    let whole = tested .before .before .before in
+    c .enum-told3 .given .1
+    ∙ sheet-end (start whole .args .atoms) (sheet whole) _ (field whole .read) (tested .before .literals-fault .ensures) (tested .if1 .left) (ends whole)
+    (number-refused _ (c .before .before .read-end .ensures) (c .enum-told3 .given .1))
 
 sub-t11 : tie.Need-sub-t11
-sub-t11 c = omega (arith, field (c .before .before .before .before .before .before) .ordered)
+sub-t11 c =
+    let tested = c .before .before .before in
+    omega (arith, field (tested .before .before .before) .ordered)
 
 returns-5 : tie.Need-returns-5
-returns-5 c = ap (λ (k : ℕ). Number (k / 2)) (sym (field (c .before .before .before .before .before .before) .sized)) ∙ sheet-query (c .before .before .before .before .before .before .before .before .before .before .before .args .atoms) (now (c .before .before .before .before .before .before .before .before .before .before .before .args .sheet)) _ (field (c .before .before .before .before .before .before) .read) (c .before .before .before .before .literals-fault .ensures) (c .before .before .before .if1 .left) (ends (c .before .before .before .before .before .before)) (number-accepted _ (c .before .before .read-end .ensures) (c .enum-told2 .given .1))
+returns-5 c =
+    let tested = c .before .before .before in
+    let whole = tested .before .before .before in
+    ap (λ (k : ℕ). Number (k / 2)) (sym (field whole .sized))
+    ∙ sheet-query (start whole .args .atoms) (sheet whole) _ (field whole .read) (tested .before .literals-fault .ensures) (tested .if1 .left) (ends whole)
+    (number-accepted _ (c .before .before .read-end .ensures) (c .enum-told2 .given .1))
 
 pub read-sheet-spec : {M : Type 1} → statement M
 read-sheet-spec =

@@ -7,8 +7,9 @@ use native.Mathlib.Omega.{arith}
 use lib.ListN.{take, drop}
 use denote.Ref.{now}
 use Rattle.papers.specs.declared.RunRead.{RunRead}
+use Rattle.papers.specs.Outcome.{Outcome}
 use Rattle.papers.specs.Field.{numbers}
-use Rattle.papers.specs.Reading.{readRun}
+use Rattle.papers.specs.Reading.{Run, readRun}
 use Rattle.papers.specs.Answers.{runAnswer}
 use Rattle.papers.proofs.Answered.{Ran, run-accepted, run-not, number-accepted, number-refused}
 use Rattle.papers.proofs.RulesAnswers.{listedIn, rules-refused, rules-within, integrity-refused, integrity-within, end-refused, all-accepted}
@@ -25,13 +26,48 @@ run-listed : (tag n count room place : ℕ) (bytes : List ℕ) {got : RunRead}
     → got ≡ runAnswer 0 (readRun tag n (listedIn count bytes) room place bytes)
 run-listed tag n count room place bytes e = e ∙ ap (λ (l : List ℕ). runAnswer 0 (readRun tag n l room place bytes)) (listed-part count bytes)
 
--- The rules were read.
-rules-ran : (c : tie.After-known-told) → Ran (readRun 0x04 (c .before .before .before .before .before .before .args .atoms) (listedIn (c .before .before .before .before .before .before .args .abducibles) (now (c .before .before .before .before .before .before .args .file))) 1024 (12 + 2 * c .before .before .before .before .before .before .args .abducibles) (now (c .before .before .before .before .before .before .args .file))) (c .before .rules .given .0 .0) (c .before .rules .given .0 .1 .0)
-rules-ran c = run-accepted _ (run-listed 0x04 (c .before .before .before .before .before .before .args .atoms) (c .before .before .before .before .before .before .args .abducibles) 1024 _ (now (c .before .before .before .before .before .before .args .file)) (c .before .before .before .read-run .ensures)) (c .before .rules .given .1)
+-- ---- once the rules are asked for
 
--- The integrity rules were read.
-integrity-ran : (c : tie.After-known-told4) → Ran (readRun 0x05 (c .before .before .before .before .before .before .before .before .before .before .args .atoms) (listedIn (c .before .before .before .before .before .before .before .before .before .before .args .abducibles) (now (c .before .before .before .before .before .before .before .before .before .before .args .file))) 256 (c .before .before .before .before .before .rules .given .0 .1 .0) (now (c .before .before .before .before .before .before .before .before .before .before .args .file))) (c .before .denials .given .0 .0) (c .before .denials .given .0 .1 .0)
-integrity-ran c = run-accepted _ (run-listed 0x05 (c .before .before .before .before .before .before .before .before .before .before .args .atoms) (c .before .before .before .before .before .before .before .before .before .before .args .abducibles) 256 _ (now (c .before .before .before .before .before .before .before .before .before .before .args .file)) (c .before .before .before .read-run2 .ensures)) (c .before .denials .given .1)
+module _ (c : tie.After-read-run) where
+  abbrev start : tie.Start
+  start = c .before .before .before
+
+  abbrev file : List ℕ
+  file = now (start .args .file)
+
+  -- A run of the file's fields, as the contract names it.
+  abbrev run : ℕ → ℕ → ℕ → Outcome Run
+  run tag limit place = readRun tag (start .args .atoms) (listedIn (start .args .abducibles) file) limit place file
+
+  rules-told : c .read-run .result ≡ runAnswer 0 (run 0x04 1024 (12 + 2 * start .args .abducibles))
+  rules-told = run-listed 0x04 (start .args .atoms) (start .args .abducibles) 1024 _ file (c .read-run .ensures)
+
+-- ---- once they are read
+
+module _ (c : tie.After-known-told) where
+  abbrev first : tie.After-read-run
+  first = c .before .before .before
+
+  rules-ran : Ran (run first 0x04 1024 (12 + 2 * start first .args .abducibles)) (c .before .rules .given .0 .0) (c .before .rules .given .0 .1 .0)
+  rules-ran = run-accepted _ (rules-told first) (c .before .rules .given .1)
+
+-- ---- once the integrity rules are asked for
+
+module _ (c : tie.After-read-run2) where
+  abbrev ruled : tie.After-known-told
+  ruled = c .before
+
+  integrity-told : c .read-run2 .result ≡ runAnswer 0 (run (first ruled) 0x05 256 (ruled .before .rules .given .0 .1 .0))
+  integrity-told = let s = first ruled in run-listed 0x05 (start s .args .atoms) (start s .args .abducibles) 256 _ (file s) (c .read-run2 .ensures)
+
+-- ---- once they are read
+
+module _ (c : tie.After-known-told4) where
+  abbrev second : tie.After-read-run2
+  second = c .before .before .before
+
+  integrity-ran : Ran (run (first (ruled second)) 0x05 256 (ruled second .before .rules .given .0 .1 .0)) (c .before .denials .given .0 .0) (c .before .denials .given .0 .1 .0)
+  integrity-ran = run-accepted _ (integrity-told second) (c .before .denials .given .1)
 
 mul-first : tie.Need-mul-first
 mul-first c = search needs
@@ -70,10 +106,16 @@ returns : tie.Need-returns
 returns c = search needs
 
 returns-2 : tie.Need-returns-2
-returns-2 c = let a = c .before .before .before .before .before .before .before .before .before .args in rules-refused (a .atoms) (a .abducibles) (now (a .file)) (c .before .before .before .before .before .before .before .before .before .pre) (run-not _ (run-listed 0x04 (a .atoms) (a .abducibles) 1024 _ (now (a .file)) (c .before .before .before .before .before .before .read-run .ensures)) (c .before .before .before .before .rules2 .given .1 ∙ c .before .rules3 .given .1))
+returns-2 c =
+    let asked = c .before .before .before .before .before .before in
+    let a = start asked .args in
+    rules-refused (a .atoms) (a .abducibles) (file asked) (start asked .pre)
+    (run-not _ (rules-told asked) (c .before .before .before .before .rules2 .given .1 ∙ c .before .rules3 .given .1))
 
 read-run-requires-2 : tie.Need-read-run-requires-2
-read-run-requires-2 c κs = let a = c .before .before .before .before .before .before .args in (rules-within (a .atoms) (a .abducibles) (now (a .file)) (c .before .before .before .before .before .before .pre) (rules-ran c), (λ e. omega arith, omega arith))
+read-run-requires-2 c κs =
+    let s = start (first c) in
+    (rules-within (s .args .atoms) (s .args .abducibles) (now (s .args .file)) (s .pre) (rules-ran c), (λ e. omega arith, omega arith))
 
 enum-known-denials : tie.Need-enum-known-denials
 enum-known-denials c = search needs
@@ -94,10 +136,18 @@ returns-3 : tie.Need-returns-3
 returns-3 c = search needs
 
 returns-4 : tie.Need-returns-4
-returns-4 c = let a = c .before .before .before .before .before .before .before .before .before .before .before .before .before .args in integrity-refused (a .atoms) (a .abducibles) (now (a .file)) (c .before .before .before .before .before .before .before .before .before .before .before .before .before .pre) (rules-ran (c .before .before .before .before .before .before .before)) (run-not _ (run-listed 0x05 (a .atoms) (a .abducibles) 256 _ (now (a .file)) (c .before .before .before .before .before .before .read-run2 .ensures)) (c .before .before .before .before .denials2 .given .1 ∙ c .before .denials3 .given .1))
+returns-4 c =
+    let asked = c .before .before .before .before .before .before in
+    let rules = ruled asked in
+    let s = start (first rules) in
+    integrity-refused (s .args .atoms) (s .args .abducibles) (now (s .args .file)) (s .pre) (rules-ran rules)
+    (run-not _ (integrity-told asked) (c .before .before .before .before .denials2 .given .1 ∙ c .before .denials3 .given .1))
 
 read-end-requires : tie.Need-read-end-requires
-read-end-requires c κs = let a = c .before .before .before .before .before .before .before .before .before .before .args in integrity-within (a .atoms) (a .abducibles) (now (a .file)) (c .before .before .before .before .before .before .before .before .before .before .pre) (rules-ran (c .before .before .before .before)) (integrity-ran c)
+read-end-requires c κs =
+    let rules = ruled (second c) in
+    let s = start (first rules) in
+    integrity-within (s .args .atoms) (s .args .abducibles) (now (s .args .file)) (s .pre) (rules-ran rules) (integrity-ran c)
 
 enum-told-3 : tie.Need-enum-told-3
 enum-told-3 c = search needs
@@ -118,7 +168,13 @@ returns-5 : tie.Need-returns-5
 returns-5 c = search needs
 
 returns-6 : tie.Need-returns-6
-returns-6 c = let a = c .before .before .before .before .before .before .before .before .before .before .before .before .before .before .before .before .before .args in end-refused (a .atoms) (a .abducibles) (now (a .file)) (c .before .before .before .before .before .before .before .before .before .before .before .before .before .before .before .before .before .pre) (rules-ran (c .before .before .before .before .before .before .before .before .before .before .before)) (integrity-ran (c .before .before .before .before .before .before .before)) (number-refused _ (c .before .before .before .before .before .before .read-end .ensures) (c .before .before .before .before .end .given .1 ∙ c .before .end2 .given .1))
+returns-6 c =
+    let ended = c .before .before .before .before .before .before in
+    let integrity = ended .before in
+    let rules = ruled (second integrity) in
+    let s = start (first rules) in
+    end-refused (s .args .atoms) (s .args .abducibles) (now (s .args .file)) (s .pre) (rules-ran rules) (integrity-ran integrity)
+    (number-refused _ (ended .read-end .ensures) (c .before .before .before .before .end .given .1 ∙ c .before .end2 .given .1))
 
 fields-at-requires : tie.Need-fields-at-requires
 fields-at-requires c κs = search needs
@@ -128,14 +184,14 @@ fields-at-requires-2 c κs = search needs
 
 returns-7 : tie.Need-returns-7
 returns-7 c =
-    let read = c .before .before in
-    let integrity = read .before .before .before in
-    let rules = integrity .before .before .before .before in
-    let start = rules .before .before .before .before .before .before in
-    let a = start .args in
+    let told = c .before .before in
+    let ended = told .before .before in
+    let integrity = ended .before in
+    let rules = ruled (second integrity) in
+    let s = start (first rules) in
     rw (c .before .fields-at .ensures, c .fields-at2 .ensures)
-    (all-accepted (a .atoms) (a .abducibles) (now (a .file)) (start .pre) (rules-ran rules) (integrity-ran integrity)
-    (number-accepted _ (read .before .before .read-end .ensures) (read .enum-told3 .given .1)))
+    (all-accepted (s .args .atoms) (s .args .abducibles) (now (s .args .file)) (s .pre) (rules-ran rules) (integrity-ran integrity)
+    (number-accepted _ (ended .read-end .ensures) (told .enum-told3 .given .1)))
 
 pub read-rules-spec : {M : Type 1} → statement M
 read-rules-spec =

@@ -6,14 +6,15 @@ use native.Mathlib.Decide.{ℕ-discrete}
 use native.Mathlib.Omega.{arith}
 use mathlib.Core.Path.{_≡_, sym, ap, subst, _∙_}
 use mathlib.Core.Bool.{Bool, false}
+use mathlib.Core.List.{List}
 use Prim.Native.Nat.{ℕ, suc, _≤_, _<_, _+_, _-_, _*_}
 use lib.Dec.{eqb}
-use lib.ListN.{length, take, drop}
+use lib.ListN.{length, getD, take, drop}
 use denote.Ref.{now}
 use Rattle.papers.specs.declared.Paper.the-variants.{File}
-use Rattle.papers.specs.Outcome.{accepted}
+use Rattle.papers.specs.Outcome.{Outcome, accepted}
 use Rattle.papers.specs.Field.{numbers, fewest, readField}
-use Rattle.papers.specs.Reading.{readRun}
+use Rattle.papers.specs.Reading.{Run, readRun}
 use Rattle.papers.specs.Answers.{runAnswer}
 use Rattle.papers.proofs.Got.{Got, got-content, got-refused, pairs-length}
 use Rattle.papers.proofs.RunAnswers.{run-ended, run-refused, run-fault, run-next}
@@ -26,23 +27,61 @@ Inv-loop file abducibles tag atoms limit from place₀ count₀ place count = (p
 abbrev μ-loop : tie.MeasureT-loop
 μ-loop file abducibles tag atoms limit from place₀ count₀ place count = limit - count
 
--- The field is whole.
-field : (c : tie.After-known-told Inv-loop μ-loop)
-    → Got File (c .before .before .before .before .before .before .before .before .before .args .tag) (eqb (c .before .before .before .before .before .before .loop .count) (c .before .before .before .before .before .before .before .before .before .args .limit)) (c .before .before .before .before .before .before .loop .place) (now (c .before .before .before .before .before .before .before .before .before .args .file)) (c .before .got .given .0 .0) (c .before .got .given .0 .1 .0)
-field c = got-content File _ _ (c .before .before .before .before .before .before .loop .place) (now (c .before .before .before .before .before .before .before .before .before .args .file)) (c .before .before .before .read-field .ensures) _ _ (c .before .got .given .1)
+-- ---- once a field is asked for
 
--- So there was room for it.
-more : (c : tie.After-known-told Inv-loop μ-loop) → c .before .before .before .before .before .before .loop .count < c .before .before .before .before .before .before .before .before .before .args .limit
-more c = elim (ℕ-discrete (c .before .before .before .before .before .before .loop .count) (c .before .before .before .before .before .before .before .before .before .args .limit)) [ yes e ↦ absurd (eqb-false _ _ (field c .room) e) | no e ↦ omega arith ]
+module _ (c : tie.After-read-field Inv-loop μ-loop) where
+  abbrev turn : tie.At-loop Inv-loop μ-loop
+  turn = c .before .before .before
 
-read : (c : tie.After-known-told Inv-loop μ-loop)
-    → readField File (c .before .before .before .before .before .before .before .before .before .args .tag) false (c .before .before .before .before .before .before .loop .place) (now (c .before .before .before .before .before .before .before .before .before .args .file)) ≡ accepted (take (c .before .got .given .0 .1 .0 - c .before .got .given .0 .0) (drop (c .before .got .given .0 .0) (now (c .before .before .before .before .before .before .before .before .before .args .file))))
-read c = subst (λ (b : Bool). readField File (c .before .before .before .before .before .before .before .before .before .args .tag) b (c .before .before .before .before .before .before .loop .place) (now (c .before .before .before .before .before .before .before .before .before .args .file)) ≡ accepted (take (c .before .got .given .0 .1 .0 - c .before .got .given .0 .0) (drop (c .before .got .given .0 .0) (now (c .before .before .before .before .before .before .before .before .before .args .file))))) (field c .room) (field c .read)
+  abbrev start : tie.Start Inv-loop μ-loop
+  start = turn .before .before .before
 
-one-less : (c : tie.After-known-told Inv-loop μ-loop)
-    → runAnswer (c .before .before .before .before .before .before .loop .count) (readRun (c .before .before .before .before .before .before .before .before .before .args .tag) (c .before .before .before .before .before .before .before .before .before .args .atoms) (numbers (now (c .before .before .before .before .before .before .before .before .before .args .abducibles))) (c .before .before .before .before .before .before .before .before .before .args .limit - c .before .before .before .before .before .before .loop .count) (c .before .before .before .before .before .before .loop .place) (now (c .before .before .before .before .before .before .before .before .before .args .file)))
-    ≡ runAnswer (c .before .before .before .before .before .before .loop .count) (readRun (c .before .before .before .before .before .before .before .before .before .args .tag) (c .before .before .before .before .before .before .before .before .before .args .atoms) (numbers (now (c .before .before .before .before .before .before .before .before .before .args .abducibles))) (suc (c .before .before .before .before .before .before .before .before .before .args .limit - (c .before .before .before .before .before .before .loop .count + 1))) (c .before .before .before .before .before .before .loop .place) (now (c .before .before .before .before .before .before .before .before .before .args .file)))
-one-less c = ap (λ (k : ℕ). runAnswer (c .before .before .before .before .before .before .loop .count) (readRun (c .before .before .before .before .before .before .before .before .before .args .tag) (c .before .before .before .before .before .before .before .before .before .args .atoms) (numbers (now (c .before .before .before .before .before .before .before .before .before .args .abducibles))) k (c .before .before .before .before .before .before .loop .place) (now (c .before .before .before .before .before .before .before .before .before .args .file)))) (omega (arith, more c))
+  abbrev file : List ℕ
+  file = now (start .args .file)
+
+  abbrev place : ℕ
+  place = turn .loop .place
+
+  abbrev count : ℕ
+  count = turn .loop .count
+
+  -- The run from here on, where so many more may follow.
+  abbrev run : ℕ → Outcome Run
+  run room = readRun (start .args .tag) (start .args .atoms) (numbers (now (start .args .abducibles))) room place file
+
+  tagged : getD (drop place file) 0 0 ≡ start .args .tag
+  tagged = sym (c .before .before .tag-at .ensures) ∙ c .before .if1 .left
+
+-- ---- once it is whole
+
+module _ (c : tie.After-known-told Inv-loop μ-loop) where
+  abbrev asked : tie.After-read-field Inv-loop μ-loop
+  asked = c .before .before .before
+
+  abbrev limit : ℕ
+  limit = start asked .args .limit
+
+  abbrev from : ℕ
+  from = c .before .got .given .0 .0
+
+  abbrev end : ℕ
+  end = c .before .got .given .0 .1 .0
+
+  abbrev content : List ℕ
+  content = take (end - from) (drop from (file asked))
+
+  field : Got File (start asked .args .tag) (eqb (count asked) limit) (place asked) (file asked) from end
+  field = got-content File _ _ (place asked) (file asked) (asked .read-field .ensures) _ _ (c .before .got .given .1)
+
+  -- So there was room for it.
+  more : count asked < limit
+  more = elim (ℕ-discrete (count asked) limit) [ yes e ↦ absurd (eqb-false _ _ (field .room) e) | no e ↦ omega arith ]
+
+  read : readField File (start asked .args .tag) false (place asked) (file asked) ≡ accepted content
+  read = subst (λ (b : Bool). readField File (start asked .args .tag) b (place asked) (file asked) ≡ accepted content) (field .room) (field .read)
+
+  one-less : runAnswer (count asked) (run asked (limit - count asked)) ≡ runAnswer (count asked) (run asked (suc (limit - (count asked + 1))))
+  one-less = ap (λ (k : ℕ). runAnswer (count asked) (run asked k)) (omega (arith, more))
 
 loop-holds : tie.Need-loop-holds Inv-loop μ-loop
 loop-holds c = let a = c .before .before .args in (c .before .before .pre .0, (omega arith, ap (λ (k : ℕ). runAnswer 0 (readRun (a .tag) (a .atoms) (numbers (now (a .abducibles))) k (a .from) (now (a .file)))) (omega arith)))
@@ -51,7 +90,10 @@ tag-at-requires : tie.Need-tag-at-requires Inv-loop μ-loop
 tag-at-requires c κs = search needs
 
 returns : tie.Need-returns Inv-loop μ-loop
-returns c = let a = c .before .before .before .before .before .args in run-ended _ _ _ (now (a .file)) _ (c .before .before .loop .place) _ (λ e. c .if1 .taken (c .before .tag-at .ensures ∙ e)) ∙ sym (c .before .before .loop .inv .1 .1)
+returns c =
+    let turn = c .before .before in
+    let a = turn .before .before .before .args in
+    run-ended _ _ _ (now (a .file)) _ (turn .loop .place) _ (λ e. c .if1 .taken (c .before .tag-at .ensures ∙ e)) ∙ sym (turn .loop .inv .1 .1)
 
 read-field-requires : tie.Need-read-field-requires Inv-loop μ-loop
 read-field-requires c κs = search needs
@@ -72,11 +114,13 @@ returns-2 : tie.Need-returns-2 Inv-loop μ-loop
 returns-2 c = search needs
 
 returns-3 : tie.Need-returns-3 Inv-loop μ-loop
-returns-3 c = let a = c .before .before .before .before .before .before .before .before .before .before .before .before .args in
-    run-refused _ _ _ (now (a .file)) _ (c .before .before .before .before .before .before .before .before .before .loop .place) (sym (c .before .before .before .before .before .before .before .before .tag-at .ensures) ∙ c .before .before .before .before .before .before .before .if1 .left) _ (eqb (c .before .before .before .before .before .before .before .before .before .loop .count) (a .limit))
-    (λ z. eq-eqb (c .before .before .before .before .before .before .before .before .before .loop .count) (a .limit) (omega arith)) (λ z. ne-eqb (c .before .before .before .before .before .before .before .before .before .loop .count) (a .limit) (λ e. z (omega arith)))
-    (got-refused File _ _ (c .before .before .before .before .before .before .before .before .before .loop .place) (now (a .file)) (c .before .before .before .before .before .before .read-field .ensures) (c .before .before .before .before .got2 .given .1 ∙ c .before .got3 .given .1))
-    ∙ sym (c .before .before .before .before .before .before .before .before .before .loop .inv .1 .1)
+returns-3 c =
+    let r = c .before .before .before .before .before .before in
+    let limit = start r .args .limit in
+    run-refused _ _ _ (file r) _ (place r) (tagged r) _ (eqb (count r) limit)
+    (λ z. eq-eqb (count r) limit (let h = turn r .loop .inv .1 .0 in omega arith)) (λ z. ne-eqb (count r) limit (λ e. z (omega arith)))
+    (got-refused File _ _ (place r) (file r) (r .read-field .ensures) (c .before .before .before .before .got2 .given .1 ∙ c .before .got3 .given .1))
+    ∙ sym (turn r .loop .inv .1 .1)
 
 sub-body-fault : tie.Need-sub-body-fault Inv-loop μ-loop
 sub-body-fault c = omega (arith, field c .ordered)
@@ -89,12 +133,19 @@ part-body-fault-end c = omega (arith, field c .within)
 
 body-fault-requires : tie.Need-body-fault-requires Inv-loop μ-loop
 unfolding fewest
-body-fault-requires c κs = λ e. let f = field (c .before) in let p = pairs-length _ _ (c .before .before .before .before .before .before .before .before .before .before .pre .1 .0) (f .allowed) .least in let q = ap (λ (t : ℕ). 2 * fewest t) e in omega (arith, f .sized)
+body-fault-requires c κs = λ e.
+    let whole = c .before in
+    let f = field whole in
+    let p = pairs-length _ _ (start (asked whole) .pre .1 .0) (f .allowed) .least in
+    let q = ap (λ (t : ℕ). 2 * fewest t) e in
+    omega (arith, f .sized)
 
 returns-4 : tie.Need-returns-4 Inv-loop μ-loop
-returns-4 c = let a = c .before .before .before .before .before .before .before .before .before .before .before .before .args in
-    run-fault _ _ _ (now (a .file)) _ (c .before .before .before .before .before .before .before .before .before .loop .place) (sym (c .before .before .before .before .before .before .before .before .tag-at .ensures) ∙ c .before .before .before .before .before .before .before .if1 .left) _ _ (read (c .before .before .before)) (c .before .body-fault .ensures) (c .if2 .taken)
-    ∙ sym (one-less (c .before .before .before)) ∙ sym (c .before .before .before .before .before .before .before .before .before .loop .inv .1 .1)
+returns-4 c =
+    let whole = c .before .before .before in
+    let r = asked whole in
+    run-fault _ _ _ (file r) _ (place r) (tagged r) _ _ (read whole) (c .before .body-fault .ensures) (c .if2 .taken)
+    ∙ sym (one-less whole) ∙ sym (turn r .loop .inv .1 .1)
 
 add-count : tie.Need-add-count Inv-loop μ-loop
 add-count c = omega (arith, more (c .before .before .before))
@@ -103,15 +154,18 @@ loop-less : tie.Need-loop-less Inv-loop μ-loop
 loop-less c = omega (arith, more (c .before .before .before))
 
 loop-again : tie.Need-loop-again Inv-loop μ-loop
-loop-again c = let a = c .before .before .before .before .before .before .before .before .before .before .before .before .args in
-    let f = field (c .before .before .before) in (
+loop-again c =
+    let whole = c .before .before .before in
+    let r = asked whole in
+    let a = start r .args in
+    let f = field whole in (
       f .within,
       (
-        omega (arith, more (c .before .before .before)),
-        c .before .before .before .before .before .before .before .before .before .loop .inv .1 .1
-            ∙ one-less (c .before .before .before)
-            ∙ run-next _ _ _ (now (a .file)) _ (c .before .before .before .before .before .before .before .before .before .loop .place) (sym (c .before .before .before .before .before .before .before .before .tag-at .ensures) ∙ c .before .before .before .before .before .before .before .if1 .left) _ _ (read (c .before .before .before)) (c .before .body-fault .ensures) (c .if2 .left)
-            ∙ ap (λ (k : ℕ). runAnswer (c .before .before .before .before .before .before .before .before .before .loop .count + 1) (readRun (a .tag) (a .atoms) (numbers (now (a .abducibles))) (a .limit - (c .before .before .before .before .before .before .before .before .before .loop .count + 1)) k (now (a .file)))) (omega (arith, f .starts, f .sized, f .ordered)),
+        omega (arith, more whole),
+        turn r .loop .inv .1 .1
+            ∙ one-less whole
+            ∙ run-next _ _ _ (file r) _ (place r) (tagged r) _ _ (read whole) (c .before .body-fault .ensures) (c .if2 .left)
+            ∙ ap (λ (k : ℕ). runAnswer (count r + 1) (readRun (a .tag) (a .atoms) (numbers (now (a .abducibles))) (a .limit - (count r + 1)) k (file r))) (omega (arith, f .starts, f .sized, f .ordered)),
       ),
     )
 
