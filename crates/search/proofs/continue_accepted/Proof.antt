@@ -1,17 +1,15 @@
 -- `search::continue_accepted` meets its contract: a law of answers for each return.
 -- Assumes nothing.
 use mathlib.Core.Path.{_≡_, sym, ap, subst, _∙_}
-use mathlib.Core.Bool.{not, true, false}
+use mathlib.Core.Bool.{not}
 use Prim.Native.Nat.{_≤_}
 use native.Mathlib.Omega.{arith}
 use borrow.Author.Needs.{needs}
 use denote.Ref.{now}
-use lib.ListN.{length}
 use Rattle.papers.specs.Outcome.{accepted}
 use Rattle.papers.specs.Reading.{Papers, readFile, readPapers, programIn}
 use Rattle.papers.proofs.FoldAnswers.{told}
 use Rattle.papers.proofs.PapersAnswers.{BothTold, both-told}
-use Rattle.dual.specs.Answers.{dualOf, filled}
 use Rattle.dual.proofs.BothPapers.{papersIn, both-read, both-asked, few-abducibles, few-literals, scenarios-are}
 use Rattle.dual.proofs.BothPapers.{other-told, dual-fits, dual-short, dual-stays, dual-kept, dual-filled}
 use Rattle.dual.proofs.FileFacts.{program-valid}
