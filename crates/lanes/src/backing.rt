@@ -12,7 +12,7 @@ fn backing_word(trues: &[u64; 513], falses: &[u64; 513], atoms: u16, o: usize) -
 {
     let conjugate = literals::explicit_conjugate(Objective(o as u32), atoms);
     let Conjugate::Is(other) = conjugate else {
-        return 0 | falses[o];
+        return falses[o];
     };
     let at = other.0 as usize;
     trues[at] | falses[o]

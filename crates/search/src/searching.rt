@@ -123,7 +123,7 @@ fn report_of(total: u32, allowance: u32, reached: Progress) -> Report
         },
         tried: reached.tried,
         rounds: reached.rounds,
-        state: state,
+        state,
     }
 }
 

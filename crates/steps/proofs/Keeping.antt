@@ -17,16 +17,16 @@ use Rattle.steps.proofs.Steps.{move-end, move-writes-tells}
 use Rattle.steps.proofs.Sound.{Sound, rising-last, below-wider, below-last}
 
 -- "Entries beyond found stay", and so do those found before.
-pub record Kept (f : ℕ) (l : List ℕ) (f′ : ℕ) (l′ : List ℕ) : Type 0 where
+pub record Keeps (f : ℕ) (l : List ℕ) (f′ : ℕ) (l′ : List ℕ) : Type 0 where
   pub grows : f ≤ f′
   pub before : take f l′ ≡ take f l
   pub beyond : drop f′ l′ ≡ drop f′ l
   pub size : length l′ ≡ length l
 
-kept-same : (f : ℕ) (l : List ℕ) → Kept f l f l
+kept-same : (f : ℕ) (l : List ℕ) → Keeps f l f l
 kept-same f l = record { grows = omega arith; before = refl; beyond = refl; size = refl }
 
-kept-set : (f : ℕ) (l : List ℕ) (p : ℕ) → Kept f l (f + 1) (set l f p)
+kept-set : (f : ℕ) (l : List ℕ) (p : ℕ) → Keeps f l (f + 1) (set l f p)
 kept-set f l p = record {
   grows = omega arith;
   before = take-set-le f l f p (omega arith);
@@ -34,7 +34,7 @@ kept-set f l p = record {
   size = length-set l f p;
 }
 
-kept-then : {f : ℕ} {l : List ℕ} {f′ : ℕ} {l′ : List ℕ} {f″ : ℕ} {l″ : List ℕ} → Kept f l f′ l′ → Kept f′ l′ f″ l″ → Kept f l f″ l″
+kept-then : {f : ℕ} {l : List ℕ} {f′ : ℕ} {l′ : List ℕ} {f″ : ℕ} {l″ : List ℕ} → Keeps f l f′ l′ → Keeps f′ l′ f″ l″ → Keeps f l f″ l″
 kept-then {f} {l} {f′} {l′} {f″} {l″} a b =
     let n : f″ ≡ f′ + (f″ - f′) = omega arith in
     let far : (x : List ℕ) → drop f″ x ≡ drop (f″ - f′) (drop f′ x) = λ x. ap (λ (k : ℕ). drop k x) n ∙ sym (drop-drop (f″ - f′) f′ x) in
@@ -48,11 +48,11 @@ kept-then {f} {l} {f′} {l′} {f″} {l″} a b =
 module _ (P : Problem) where
   -- ---- one step
 
-  kept-step : (s : Work) → Kept (s .found) (s .list) (step P s .found) (step P s .list)
+  kept-step : (s : Work) → Keeps (s .found) (s .list) (step P s .found) (step P s .list)
   unfolding step
   kept-step s = go (move P (s .position) (s .found) (s .list)) refl
     where
-      go : (m : Move) → move P (s .position) (s .found) (s .list) ≡ m → Kept (s .found) (s .list) (step P s .found) (step P s .list)
+      go : (m : Move) → move P (s .position) (s .found) (s .list) ≡ m → Keeps (s .found) (s .list) (step P s .found) (step P s .list)
       go stands e = rw (e, step) (kept-same (s .found) (s .list))
       go tries e = rw (e, step) (kept-same (s .found) (s .list))
       go writes e = rw (e, step) (kept-set (s .found) (s .list) (s .position))
@@ -101,7 +101,7 @@ module _ (P : Problem) where
 
   -- ---- a call
 
-  kept-steps : (w : ℕ) (s : Work) → Kept (s .found) (s .list) (steps P w s .found) (steps P w s .list)
+  kept-steps : (w : ℕ) (s : Work) → Keeps (s .found) (s .list) (steps P w s .found) (steps P w s .list)
   unfolding steps
   kept-steps zero s = kept-same (s .found) (s .list)
   kept-steps (suc w) s = kept-then (kept-step s) (kept-steps w (step P s))
@@ -111,7 +111,7 @@ module _ (P : Problem) where
   sound-steps zero s h = h
   sound-steps (suc w) s h = sound-steps w (step P s) (sound-step s h)
 
-  pub continue-keeps : (w : ℕ) (r : Record) (l : List ℕ) → Kept (r .found) l (continue P w r l .new .found) (continue P w r l .list)
+  pub continue-keeps : (w : ℕ) (r : Record) (l : List ℕ) → Keeps (r .found) l (continue P w r l .new .found) (continue P w r l .list)
   unfolding continue
   continue-keeps w r l = kept-steps w (begun r l)
 

@@ -71,8 +71,8 @@ fn try_lane(
         Move::Stands => before,
         Move::Tries => Progress {
             position: position + 1,
-            found: found,
-            tried: tried,
+            found,
+            tried,
             rounds: spent,
         },
         Move::Writes => {
@@ -80,7 +80,7 @@ fn try_lane(
             Progress {
                 position: position + 1,
                 found: found + 1,
-                tried: tried,
+                tried,
                 rounds: spent,
             }
         }
