@@ -26,7 +26,7 @@ use Rattle.dual.proofs.DualWritten.{the-type}
 use Rattle.dual.specs.declared.DualWritten.{DualWritten}
 use Rattle.dual.specs.declared.DualWritten.the-variants.{Length, Short, Refused}
 use Rattle.dual.specs.Answers.{dualOf, dualAnswer, dualAfter, filled}
-use Rattle.dual.proofs.FileFacts.{program-valid, abducibles-are}
+use Rattle.papers.proofs.FileFacts.{program-valid, abducibles-are}
 
 -- ---- the papers
 

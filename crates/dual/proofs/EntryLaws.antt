@@ -7,10 +7,10 @@ use Prim.Native.Nat.{ℕ, suc, _+_, _-_, _*_, _/_, _≤_, _<_}
 use native.Mathlib.Omega.{arith}
 use lib.Dec.{eqb}
 use lib.ListN.{length, getD, drop}
-use lib.Seq.{drop-drop, getD-drop}
 use Rattle.papers.specs.Program.{Rule, Program, allRules, noRule}
 use Rattle.papers.specs.Content.{isAmong}
 use Rattle.papers.specs.Valid.{All, each}
+use Rattle.papers.proofs.Lists.{at-place, past-place}
 use Rattle.dual.specs.Table.{foldsFrom, foldsOf, isEmpty, isFact, hasEntry}
 use Rattle.dual.specs.Length.{ruleLength, rulesLength, entriesLength}
 use Rattle.dual.specs.Chains.{Chain, ChainsOf}
@@ -41,25 +41,17 @@ module _ (all : List Rule) (o : ℕ) where
   walk-folds : (j total : ℕ) (rules : List Rule) → drop j all ≡ rules → walk all total (foldsFrom j rules o) ≡ cond (isFact rules o) 0 (total + rulesLength rules o)
   unfolding walk foldsFrom isFact rulesLength ruleLength
   walk-folds j total [] e = omega arith
-  walk-folds j total (r ∷ more) e = go (eqb (r .head) o) (isEmpty (r .body)) refl (λ t. walk-folds (j + 1) t more later)
+  walk-folds j total (r ∷ more) e = go (eqb (r .head) o) (isEmpty (r .body)) refl (λ t. walk-folds (j + 1) t more (past-place all j e))
     where
-      here : getD all j noRule ≡ r
-      here =
-          let z : j + 0 ≡ j = omega arith in
-          ap (λ (i : ℕ). getD all i noRule) (sym z) ∙ sym (getD-drop j all 0 noRule) ∙ ap (λ (l : List Rule). getD l 0 noRule) e
-
-      later : drop (j + 1) all ≡ more
-      later = sym (drop-drop 1 j all) ∙ ap (λ (l : List Rule). drop 1 l) e
-
       go : (a b : Bool) → isEmpty (r .body) ≡ b
           → ((t : ℕ) → walk all t (foldsFrom (j + 1) more o) ≡ cond (isFact more o) 0 (t + rulesLength more o))
           → walk all total (cond a (j ∷ foldsFrom (j + 1) more o) (foldsFrom (j + 1) more o))
           ≡ cond (cond a (cond (isEmpty (r .body)) true (isFact more o)) (isFact more o)) 0 (total + cond a (ruleLength r + rulesLength more o) (rulesLength more o))
       go false b z ih = ih total
-      go true true z ih = rw (here, z)
+      go true true z ih = rw (at-place all j e noRule, z)
       go true false z ih =
           let s : total + 7 + 2 * length (r .body) + rulesLength more o ≡ total + (7 + 2 * length (r .body) + rulesLength more o) = omega arith in
-          rw (here, z) (ih (total + 7 + 2 * length (r .body)) ∙ ap (λ (k : ℕ). cond (isFact more o) 0 k) s)
+          rw (at-place all j e noRule, z) (ih (total + 7 + 2 * length (r .body)) ∙ ap (λ (k : ℕ). cond (isFact more o) 0 k) s)
 
 pub walk-all : (p : Program) (o : ℕ) → walk (allRules p) 5 (foldsOf p o) ≡ cond (isFact (allRules p) o) 0 (5 + rulesLength (allRules p) o)
 unfolding foldsOf

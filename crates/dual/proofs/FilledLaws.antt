@@ -6,7 +6,7 @@ use Prim.Native.Nat.{ℕ, suc, _+_, _-_, _*_, _/_, _%_, _≤_, _<_}
 use native.Mathlib.Omega.{arith}
 use lib.ListN.{length, getD, take, drop, set, length-append, length-drop, take-append-drop, drop-of-length-le}
 use borrow.Rule.Slice.PartMut.{putMid}
-use lib.Seq.{drop-cons, drop-drop, take-append-seam, drop-append-seam, drop-append-add, set-append-seam, length-take-le, take-all}
+use lib.Seq.{drop-cons, drop-drop, take-append-seam, drop-append-seam, drop-append-add, set-append-seam, length-take-le}
 use Rattle.papers.specs.Encoding.{encodeNumbers}
 use Rattle.papers.proofs.NumberLaws.{length-encoded}
 use Rattle.dual.specs.Answers.{filled}
@@ -92,9 +92,6 @@ pub put-end : (end : ℕ) (buffer part : List ℕ) → putMid end (length buffer
 put-end end buffer part =
     let l : length (drop end buffer) ≡ length buffer - end = length-drop end buffer in
     rw (drop-of-length-le (drop end buffer) {i = length buffer - end} (omega arith), append-nil part)
-
-pub part-end : (end : ℕ) (buffer : List ℕ) → take (length buffer - end) (drop end buffer) ≡ drop end buffer
-part-end end buffer = take-all (length buffer - end) (drop end buffer) (omega (arith, length-drop end buffer))
 
 -- Three bytes, one by one.
 pub filled-three : (buffer : List ℕ) (x y z : ℕ) → 2 < length buffer → set (set (set buffer 0 x) 1 y) 2 z ≡ filled (x ∷ y ∷ z ∷ []) buffer

@@ -1,18 +1,18 @@
 -- How long a dual table is: its bytes are as many as the closed form says.
 -- Assumes nothing.
-use mathlib.Core.Path.{_≡_, refl, sym, _∙_}
+use mathlib.Core.Path.{_≡_, refl}
 use mathlib.Core.Bool.{Bool, true, false}
 use mathlib.Core.List.{List, [], _∷_, map}
 use Prim.Native.Nat.{ℕ, zero, suc, _+_, _*_}
 use native.Mathlib.Omega.{arith}
 use lib.Dec.{eqb}
 use lib.ListN.{length, getD, drop, length-append, length-map}
-use lib.Seq.{drop-drop, getD-drop}
 use Rattle.literals.specs.Numbering.{defaultConjugate, judged}
 use Rattle.papers.specs.Program.{Rule, Program, allRules, noRule}
 use Rattle.papers.specs.Encoding.{encodeNumbers, encodeField}
 use Rattle.papers.proofs.NumberLaws.{length-encoded}
 use Rattle.papers.proofs.Sizes.{length-field}
+use Rattle.papers.proofs.Lists.{at-place, past-place}
 use Rattle.dual.specs.Table.{Field, literal, foldsFrom, foldsOf, hasEntry, foldField, entry, entriesFrom, dual}
 use Rattle.dual.specs.Encoding.{tagOf, numbersOf, encodeFields, encodeDual}
 use Rattle.dual.specs.Length.{ruleLength, rulesLength, entriesLength, dualLength}
@@ -47,16 +47,10 @@ module _ (all : List Rule) where
   unfolding foldsFrom rulesLength
   folds-length o j [] e = unfold foldsBytes encodeFields in refl
   folds-length o j (r ∷ more) e =
-      go (eqb (r .head) o) refl (folds-length o (j + 1) more later) where
-        later : drop (j + 1) all ≡ more
-        later = sym (drop-drop 1 j all) ∙ rw e
-
-        first : getD all j noRule ≡ r
-        first = let z : j + 0 ≡ j = omega arith in rw (← z, ← getD-drop j all 0 noRule, e)
-
+      go (eqb (r .head) o) refl (folds-length o (j + 1) more (past-place all j e)) where
         go : (b : Bool) → eqb (r .head) o ≡ b → foldsBytes all (foldsFrom (j + 1) more o) ≡ rulesLength more o
             → foldsBytes all (foldsFrom j (r ∷ more) o) ≡ rulesLength (r ∷ more) o
-        go true t ih = rw (t, folds-step j (foldsFrom (j + 1) more o), first, ih)
+        go true t ih = rw (t, folds-step j (foldsFrom (j + 1) more o), at-place all j e noRule, ih)
         go false t ih = rw (t, ih)
 
 -- A heading, the number, and the rules.

@@ -3,7 +3,6 @@ pub mod ReadBack
 pub mod Lengths
 pub mod Bound
 pub mod Folds
-pub mod FileFacts
 pub mod ChainLaws
 pub mod FilledLaws
 pub mod WritingLaws

@@ -7,11 +7,11 @@ use Prim.Native.Nat.{ℕ, zero, suc, _+_, _<_}
 use native.Mathlib.Omega.{arith}
 use lib.Dec.{eqb}
 use lib.ListN.{length, getD, drop}
-use lib.Seq.{take-at, drop-at, drop-append-seam}
+use lib.Seq.{drop-at, drop-append-seam}
 use Rattle.papers.specs.Field.{contentOf}
 use Rattle.papers.specs.Encoding.{encodeNumbers, encodeField}
 use Rattle.papers.proofs.NumberLaws.{numbers-encoded}
-use Rattle.papers.proofs.Encoded.{size-encoded}
+use Rattle.papers.proofs.Encoded.{content-encoded}
 use Rattle.papers.proofs.Sizes.{length-field}
 use Rattle.dual.specs.Table.{Field, literal, fold}
 use Rattle.dual.specs.Encoding.{tagOf, numbersOf, encodeFields, encodeDual, fieldFrom, readFields}
@@ -50,11 +50,6 @@ module _ (before : List Field) where
 
 -- ---- reading the fields
 
-module _ (tag : ℕ) (content rest : List ℕ) where
-  content-back : contentOf (encodeField tag content ++ rest) ≡ content
-  unfolding contentOf
-  content-back = rw size-encoded (unfold encodeField in take-at content rest (length content) refl)
-
 -- A tag and numbers give the field that has them.
 field-back : (f : Field) (more : List Field) → fieldFrom (tagOf f) (numbersOf f) more ≡ f ∷ more
 field-back (literal o folds) more = refl
@@ -72,7 +67,7 @@ unfolding readFields
 read-step f room rest =
     let bytes = encodeOne f ++ rest in
     let tag : getD bytes 0 0 ≡ tagOf f = unfold encodeField in refl in
-    let content : contentOf bytes ≡ encodeNumbers (numbersOf f) = content-back (tagOf f) (encodeNumbers (numbersOf f)) rest in
+    let content : contentOf bytes ≡ encodeNumbers (numbersOf f) = content-encoded (tagOf f) (encodeNumbers (numbersOf f)) rest in
     let later : drop (3 + length (encodeNumbers (numbersOf f))) bytes ≡ rest =
     drop-at (encodeOne f) rest (3 + length (encodeNumbers (numbersOf f))) (length-field (tagOf f) (encodeNumbers (numbersOf f))) in
     rw (tag, content, not-end f, numbers-encoded, later, field-back f (readFields room rest))

@@ -9,7 +9,7 @@ use Rattle.literals.specs.Numbering.{defaultConjugate}
 use Rattle.papers.specs.Field.{number, numbers}
 use Rattle.papers.specs.Encoding.{encodeNumbers, encodeField}
 use Rattle.papers.proofs.NumberLaws.{length-encoded}
-use Rattle.papers.proofs.Walking.{next-number, no-number}
+use Rattle.papers.proofs.Walking.{read-number, no-number}
 use Rattle.dual.specs.Answers.{filled}
 use Rattle.dual.specs.Chains.{Chain}
 use Rattle.dual.proofs.ChainLaws.{Following, following-starts, following-done, following-link, following-room, following-next}
@@ -60,7 +60,7 @@ module _ (start body buffer : List ℕ) (i : ℕ) (w : Conjugated start body buf
       → Conjugated start body (set (set buffer (5 + 2 * i) (v / 256)) (5 + 2 * i + 1) (v % 256)) (i + 1)
   conjugated-more h {l} {v} e c =
       let m = mapped in
-      let n : numbers (drop (2 * i) body) ≡ l ∷ numbers (drop (2 * (i + 1)) body) = next-number body i h ∙ ap (λ (x : ℕ). x ∷ numbers (drop (2 * (i + 1)) body)) (sym e) in
+      let n : numbers (drop (2 * i) body) ≡ l ∷ numbers (drop (2 * (i + 1)) body) = read-number body i h e in
       let more = numbered-more 5 start buffer (map defaultConjugate (w .done)) (w .written) (omega arith) (5 + 2 * i) v (omega arith) (omega arith) in
       record {
         done = w .done ++ l ∷ [];

@@ -10,6 +10,7 @@ use lib.Pow.{high, pow-add, pow-lt, shl-shr}
 use Rattle.model.specs.Tests.{_or_}
 use Rattle.model.specs.Sets.{sameFlag}
 use Rattle.lanes.specs.Lanes.{inLane, LaneSet}
+use Rattle.model.proofs.TestLaws.{or-true, or-false}
 use Rattle.lanes.proofs.LaneLaws.{lane-or, lane-xor}
 
 -- ---- a power of two has one lane
@@ -44,16 +45,6 @@ unfolding inLane
 power-elsewhere k j n = rw (bit-other k j n)
 
 -- ---- one lane more
-
-or-true : (b : Bool) → (b or true) ≡ true
-unfolding _or_
-or-true true = refl
-or-true false = refl
-
-or-false : (b : Bool) → (b or false) ≡ b
-unfolding _or_
-or-false true = refl
-or-false false = refl
 
 module _ (x j : ℕ) (h : j < 64) where
   shifted : 1 * 2 ^ j % 18446744073709551616 ≡ 2 ^ j

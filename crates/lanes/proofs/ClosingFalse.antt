@@ -17,11 +17,12 @@ use Rattle.model.specs.Scenarios.{falseAbducible}
 use Rattle.model.specs.Model.{conjugateIn}
 use Rattle.model.specs.Falsity.{entryHolds, backed, greatest}
 use Rattle.lanes.specs.Lanes.{inLane, lane}
-use Rattle.lanes.specs.FalseWords.{GivenBacked, GreatestGiven, FalseWords, total, DroppedTo}
+use Rattle.lanes.specs.FalseWords.{GivenBacked, GreatestGiven, FalseWords, DroppedTo}
+use Rattle.lanes.specs.Words.{total}
+use Rattle.model.proofs.TestLaws.{or-assoc}
 use Rattle.model.proofs.SetLaws.{has-within}
 use Rattle.model.proofs.FalsityLaws.{greatest-only}
 use Rattle.lanes.proofs.LaneLaws.{lane-full, sized as lane-sized, has-lane}
-use Rattle.lanes.proofs.FoldWords.{or-assoc}
 
 -- ---- all passes
 

@@ -4,7 +4,7 @@ use mathlib.Core.Path.{_≡_, refl, sym, ap, subst, _∙_}
 use mathlib.Core.Bool.{Bool, true, false, cond}
 use mathlib.Core.List.{List, [], _∷_}
 use mathlib.Core.Logic.{⊎-elim}
-use Prim.Native.Nat.{ℕ, zero, suc, _+_, _-_, _*_, _≤_, _<_}
+use Prim.Native.Nat.{ℕ, suc, _+_, _-_, _*_, _≤_, _<_}
 use native.Mathlib.Omega.{arith}
 use native.Mathlib.Decide.{ℕ-discrete}
 use borrow.Author.Tests.{eqb-true, eqb-false, eq-eqb, ne-eqb, not-true, not-false}
@@ -21,20 +21,20 @@ use Rattle.papers.specs.Reading.{readFile, programIn}
 use Rattle.papers.specs.Answers.{fileAnswer}
 use Rattle.papers.proofs.Lists.{all-each}
 use Rattle.papers.proofs.RuleLaws.{rule-fitting, head-within}
-use Rattle.dual.proofs.FileFacts.{program-valid}
+use Rattle.papers.proofs.FileFacts.{program-valid}
 use Rattle.model.specs.Tests.{_and_, _or_}
 use Rattle.model.specs.Sets.{Set, has, full}
 use Rattle.model.specs.LeastSet.{bodyHolds, supported, Reduct, least}
 use Rattle.model.specs.Scenarios.{trueAbducibles}
 use Rattle.model.specs.Model.{trueReduct, trueSet}
 use Rattle.lanes.specs.Lanes.{inLane, lane}
-use Rattle.lanes.specs.Words.{Literals, Laned}
+use Rattle.lanes.specs.Words.{Literals, total, Laned}
 use Rattle.lanes.specs.Closing.{Raised, Passed, begun, then, ClosedTrue}
 use Rattle.model.proofs.TestLaws.{both, left, right, either, either-left, either-right, true-and, false-and, true-or, false-or, or-false}
 use Rattle.model.proofs.SetLaws.{Sub, has-within, full-in, sub-refl}
 use Rattle.model.proofs.LeastLaws.{body-mono, least-closed, least-is}
 use Rattle.model.proofs.Support.{supported-tells, supported-is}
-use Rattle.lanes.proofs.LaneLaws.{lane-or, has-lane, sized}
+use Rattle.lanes.proofs.LaneLaws.{lane-or, has-lane, sized, total-set}
 
 -- ---- rules over n objective literals
 
@@ -59,17 +59,6 @@ pub file-judged : (bytes : List ℕ) (contents : Contents) → fileAnswer (readF
 file-judged bytes contents answer = rules-judged (programIn bytes) (program-valid bytes contents answer)
 
 -- ---- words and their sum
-
--- It rises with each bit that comes in.
-unfoldable pub total : List ℕ → ℕ
-total [] = 0
-total (x ∷ xs) = x + total xs
-
-total-set : (words : List ℕ) (o x : ℕ) → o < length words → total (set words o x) + getD words o 0 ≡ total words + x
-unfolding total
-total-set [] o x h = omega arith
-total-set (w ∷ ws) zero x h = omega arith
-total-set (w ∷ ws) (suc o) x h = omega (arith, total-set ws o x (omega arith))
 
 total-le : (words : List ℕ) (b : ℕ) → ((o : ℕ) → getD words o 0 ≤ b) → total words ≤ length words * b
 unfolding total

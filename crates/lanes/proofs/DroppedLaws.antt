@@ -2,8 +2,8 @@
 -- Assumes nothing.
 use mathlib.Core.Path.{_≡_, refl, sym, ap, _∙_}
 use mathlib.Core.Bool.{Bool, true, false, cond, true≢false}
-use mathlib.Core.List.{List, [], _∷_, _++_, append-assoc}
-use Prim.Native.Nat.{ℕ, zero, suc, _+_, _-_, _≤_, _<_}
+use mathlib.Core.List.{List, [], _++_, append-assoc}
+use Prim.Native.Nat.{ℕ, _+_, _-_, _≤_, _<_}
 use native.Mathlib.Omega.{arith}
 use native.Mathlib.Decide.{ℕ-discrete}
 use borrow.Author.Tests.{le-ltb}
@@ -24,11 +24,12 @@ use Rattle.model.specs.Scenarios.{digitOf, falseAbducible}
 use Rattle.model.specs.Model.{conjugateIn}
 use Rattle.model.specs.Falsity.{entryHolds, backed}
 use Rattle.lanes.specs.Lanes.{inLane, lane}
-use Rattle.lanes.specs.FalseWords.{bytesFrom, DualStarts, EntriesAt, EntryWord, GivenBacked, total, DroppedTo}
+use Rattle.lanes.specs.FalseWords.{bytesFrom, DualStarts, EntriesAt, EntryWord, GivenBacked, DroppedTo}
+use Rattle.lanes.specs.Words.{total}
 use Rattle.model.proofs.TestLaws.{both, right, or-mono, false-or, false-and}
 use Rattle.model.proofs.SetLaws.{Sub, has-within}
 use Rattle.model.proofs.FalsityLaws.{backed-more}
-use Rattle.lanes.proofs.LaneLaws.{lane-and, lane-or, has-lane}
+use Rattle.lanes.proofs.LaneLaws.{lane-and, lane-or, has-lane, total-set}
 
 -- ---- a larger set backs more
 
@@ -57,14 +58,6 @@ entry-more : (fields : List Field) (trues : Set) {set set′ : Set} → Sub set 
     → T (entryHolds fields trues set fields o) → T (entryHolds fields trues set′ fields o)
 entry-more fields trues {set} {set′} h o t =
     rw (bare-backed fields trues set′ o) at (backed-more bare 0 fields trues h o (rw (bare-backed fields trues set o) t))
-
--- ---- the sum of the words
-
-total-set : (words : List ℕ) (i v : ℕ) → i < length words → total (set words i v) + getD words i 0 ≡ total words + v
-unfolding total
-total-set [] i v h = absurd (omega arith)
-total-set (w ∷ more) zero v h = omega arith
-total-set (w ∷ more) (suc i) v h = let e = total-set more i v (omega arith) in omega arith
 
 -- ---- one pass
 

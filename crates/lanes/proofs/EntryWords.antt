@@ -1,7 +1,7 @@
 -- The word of an entry, as the loop over its 09 fields meets them.
 -- Assumes nothing.
 use mathlib.Core.Path.{_≡_, refl, sym, ap, _∙_}
-use mathlib.Core.Bool.{Bool, true, false}
+use mathlib.Core.Bool.{Bool}
 use mathlib.Core.List.{List, [], _∷_, _++_, map, append-assoc}
 use Prim.Native.Nat.{ℕ, _+_, _≤_, _<_}
 use native.Mathlib.Omega.{arith}
@@ -26,20 +26,10 @@ use Rattle.model.specs.Tests.{_and_}
 use Rattle.model.specs.Falsity.{listedBy, someHolds, foldsHold}
 use Rattle.lanes.specs.Lanes.{inLane, lane}
 use Rattle.lanes.specs.FalseWords.{Below, listedIn, FoldStands, bytesFrom, EntriesAt, FoldsAt, SomeWord, FoldsWord}
-use Rattle.model.proofs.TestLaws.{true-and}
+use Rattle.model.proofs.TestLaws.{true-and, and-true, and-assoc}
 use Rattle.lanes.proofs.LaneLaws.{lane-and, lane-full}
 use Rattle.model.proofs.Fields.{conjugates, listed-dual}
 use Rattle.lanes.proofs.EntryBytes.{fold-size, fold-listed, fold-stands, conjugates-below, below-all}
-
-and-assoc : (a b c : Bool) → ((a and b) and c) ≡ (a and (b and c))
-unfolding _and_
-and-assoc true b c = refl
-and-assoc false b c = refl
-
-and-true : (b : Bool) → (b and true) ≡ b
-unfolding _and_
-and-true true = refl
-and-true false = refl
 
 -- The word has the first i folds; the others are still to come.
 pub record EntryTo (p : Program) (bytes : List ℕ) (o : ℕ) (truth falses : List ℕ) (i place word : ℕ) : Type 0 where

@@ -1,6 +1,6 @@
 -- The word of a fold, as the loop over its listed literals meets them; and the field that lists them, in its bytes.
 -- Assumes nothing.
-use mathlib.Core.Path.{_≡_, refl, sym, ap, _∙_}
+use mathlib.Core.Path.{_≡_, sym, ap, _∙_}
 use mathlib.Core.Bool.{Bool, true, false, cond}
 use mathlib.Core.List.{List, _∷_}
 use Prim.Native.Nat.{ℕ, _+_, _-_, _*_, _/_, _≤_, _<_}
@@ -12,7 +12,7 @@ use Rattle.literals.specs.Numbering.{objectiveNumber, defaultNegated}
 use Rattle.papers.specs.Field.{number, numbers, sizeOf, contentOf}
 use Rattle.papers.specs.Valid.{All}
 use Rattle.papers.proofs.Lists.{drop-take}
-use Rattle.papers.proofs.Walking.{next-number, no-number}
+use Rattle.papers.proofs.Walking.{read-number, no-number}
 use Rattle.dual.proofs.EntryLaws.{first-of}
 use Rattle.model.specs.Tests.{_or_}
 use Rattle.model.specs.Sets.{has}
@@ -21,13 +21,8 @@ use Rattle.model.specs.Falsity.{someHolds}
 use Rattle.lanes.specs.Lanes.{inLane, lane}
 use Rattle.lanes.specs.FalseWords.{Below, listedIn, SomeWord}
 use Rattle.lanes.specs.Words.{wordOf}
-use Rattle.model.proofs.TestLaws.{or-false, false-or}
+use Rattle.model.proofs.TestLaws.{or-false, false-or, or-assoc}
 use Rattle.lanes.proofs.LaneLaws.{lane-or, lane-none, has-lane}
-
-pub or-assoc : (a b c : Bool) → ((a or b) or c) ≡ (a or (b or c))
-unfolding _or_
-or-assoc true b c = refl
-or-assoc false b c = refl
 
 -- A literal's word says in each lane whether it holds.
 pub literal-lane : (n l x : ℕ) (truth falses : List ℕ) → Below n x → inLane l (wordOf x truth falses) ≡ literalHolds (lane n l truth) (lane n l falses) x
@@ -60,7 +55,7 @@ module _ (content truth falses : List ℕ) where
 
     module _ (here : i < length content / 2) {x : ℕ} (is : x ≡ number (getD content (2 * i) 0) (getD content (2 * i + 1) 0)) where
       one : numbers (drop (2 * i) content) ≡ x ∷ numbers (drop (2 * (i + 1)) content)
-      one = next-number content i here ∙ ap (λ (y : ℕ). y ∷ numbers (drop (2 * (i + 1)) content)) (sym is)
+      one = read-number content i here is
 
       parted : (n : ℕ) → All (Below n) (numbers content) → Below n x × All (Below n) (numbers (drop (2 * (i + 1)) content))
       parted n a = first-of (rw one at (s .later n a))

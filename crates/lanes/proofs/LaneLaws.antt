@@ -1,19 +1,20 @@
--- Laws of lanes: bit l of words joined and negated; two words with the same bits are one; the set of a lane.
+-- Laws of lanes: bit l of words joined and negated; two words with the same bits are one; the set of a lane; the sum of the words.
 -- Assumes nothing.
 use mathlib.Core.Path.{_≡_, refl, sym, ap, subst, _∙_}
 use mathlib.Core.Bool.{true, false, not}
-use mathlib.Core.List.{List}
+use mathlib.Core.List.{List, [], _∷_}
 use Prim.Native.Nat.{ℕ, zero, suc, _+_, _-_, _/_, _%_, _^_, _<_, min, max}
 use native.Mathlib.Omega.{arith}
 use native.Mathlib.Nat.{zero-div, pow-suc}
 use lib.Arith.{digits-mod, lt-one}
 use lib.Bits.{bitAnd, bitOr, bitXor, differ, and-shr, and-step, or-shr, or-step, xor-shr, xor-step, xor-add-and, and-mask}
 use lib.Dec.{eqb}
-use lib.ListN.{length, getD, replicate}
+use lib.ListN.{length, getD, set, replicate}
 use lib.Pow.{high, low, ones-split, ones-lt, shr-shr}
 use Rattle.model.specs.Tests.{_and_, _or_}
 use Rattle.model.specs.Sets.{has, sameFlag}
 use Rattle.lanes.specs.Lanes.{inLane, lane}
+use Rattle.lanes.specs.Words.{total}
 use Rattle.model.proofs.SetLaws.{length-setOf, has-setOf}
 
 -- ---- a bit as a number
@@ -173,3 +174,11 @@ sized n l words = length-setOf _ n
 pub has-lane : (n l o : ℕ) (words : List ℕ) → o < n → has (lane n l words) o ≡ inLane l (getD words o 0)
 unfolding lane
 has-lane n l o words h = has-setOf _ n o h
+
+-- ---- the sum of the words
+
+pub total-set : (words : List ℕ) (o x : ℕ) → o < length words → total (set words o x) + getD words o 0 ≡ total words + x
+unfolding total
+total-set [] o x h = omega arith
+total-set (w ∷ more) zero x h = omega arith
+total-set (w ∷ more) (suc o) x h = omega (arith, total-set more o x (omega arith))

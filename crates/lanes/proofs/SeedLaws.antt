@@ -14,7 +14,7 @@ use lib.Seq.{getD-set-same, getD-set-other}
 use Rattle.papers.specs.Field.{number, numbers}
 use Rattle.papers.specs.Content.{isAmong}
 use Rattle.papers.specs.Valid.{All, each, Rising, Rising.next as above}
-use Rattle.papers.proofs.Walking.{next-number, no-number}
+use Rattle.papers.proofs.Walking.{read-number, no-number}
 use Rattle.model.specs.Scenarios.{digitOf}
 use Rattle.lanes.specs.Lanes.{inLane, DigitLanes}
 use Rattle.lanes.proofs.LaneLaws.{lane-none, zeros}
@@ -133,7 +133,7 @@ module _ (base : ℕ) (listed trues falses : List ℕ) (power i : ℕ) (w : Seed
 
   module _ (here : i < length listed / 2) {a : ℕ} (is : a ≡ number (getD listed (2 * i) 0) (getD listed (2 * i + 1) 0)) where
     mid : numbers listed ≡ w .done ++ a ∷ numbers (drop (2 * (i + 1)) listed)
-    mid = w .split ∙ ap (λ (x : List ℕ). w .done ++ x) (next-number listed i here ∙ ap (λ (x : ℕ). x ∷ numbers (drop (2 * (i + 1)) listed)) (sym is))
+    mid = w .split ∙ ap (λ (x : List ℕ). w .done ++ x) (read-number listed i here is)
 
     pub seeding-below : (n : ℕ) → All (_< n) (numbers listed) → a < n
     seeding-below n all = all-there (w .done) a (numbers (drop (2 * (i + 1)) listed)) (subst (All (_< n)) mid all)

@@ -1,6 +1,6 @@
 -- Laws of a literal's word and of a body's, as the code that reads them meets them.
 -- Assumes nothing.
-use mathlib.Core.Path.{_≡_, refl, sym, ap, _∙_}
+use mathlib.Core.Path.{_≡_, sym, _∙_}
 use mathlib.Core.Bool.{Bool, true, false, cond}
 use mathlib.Core.List.{List, _∷_}
 use Prim.Native.Nat.{ℕ, _+_, _*_, _/_, _%_, _≤_, _<_}
@@ -11,13 +11,13 @@ use lib.ListN.{length, getD, drop}
 use Rattle.literals.specs.Numbering.{defaultNegated}
 use Rattle.papers.specs.Field.{number, numbers}
 use Rattle.papers.specs.Valid.{All, each}
-use Rattle.papers.proofs.Walking.{no-number, next-number}
+use Rattle.papers.proofs.Walking.{no-number, read-number}
 use Rattle.model.specs.Tests.{_and_}
 use Rattle.model.specs.Sets.{has}
 use Rattle.model.specs.LeastSet.{literalHolds, bodyHolds}
 use Rattle.lanes.specs.Lanes.{inLane, lane}
 use Rattle.lanes.specs.Words.{wordOf, Literals, BodyWord}
-use Rattle.model.proofs.TestLaws.{true-and}
+use Rattle.model.proofs.TestLaws.{true-and, and-true, and-assoc}
 use Rattle.lanes.proofs.LaneLaws.{lane-and, lane-full, has-lane}
 
 -- ---- a literal
@@ -38,16 +38,6 @@ word-holds n x set negated h l = go (defaultNegated x) where
   go false = sym (has-lane n l (x / 2) set (omega arith))
 
 -- ---- a body
-
-and-assoc : (a b c : Bool) → ((a and b) and c) ≡ (a and (b and c))
-unfolding _and_
-and-assoc true b c = refl
-and-assoc false b c = refl
-
-and-true : (a : Bool) → (a and true) ≡ a
-unfolding _and_
-and-true true = refl
-and-true false = refl
 
 -- A walk over a body: it holds in the lanes of the word in which the literals from the i-th on hold.
 pub record WordTo (i : ℕ) (body set negated : List ℕ) (word : ℕ) : Type 0 where
@@ -84,7 +74,7 @@ module _ (body set negated : List ℕ) where
 
     module _ (here : i < length body / 2) {x : ℕ} (is : x ≡ number (getD body (2 * i) 0) (getD body (2 * i + 1) 0)) where
       one : numbers (drop (2 * i) body) ≡ x ∷ numbers (drop (2 * (i + 1)) body)
-      one = next-number body i here ∙ ap (λ (y : ℕ). y ∷ numbers (drop (2 * (i + 1)) body)) (sym is)
+      one = read-number body i here is
 
       pub literal-below : (n : ℕ) → Literals n (numbers body) → x < 2 * n
       literal-below n h = literals-first (rw one at (so-far .rest n h))

@@ -1,7 +1,7 @@
 -- Falsity in sixty-four scenarios at once, as it is read from the bytes of a dual. p is a program, l a lane.
 use mathlib.Core.Path.{_≡_}
 use mathlib.Core.Bool.{Bool, true, false, cond}
-use mathlib.Core.List.{List, [], _∷_, _++_, map}
+use mathlib.Core.List.{List, [], _++_, map}
 use Prim.Native.Nat.{ℕ, _+_, _-_, _≤_, _<_}
 use lib.Dec.{T, eqb}
 use lib.ListN.{length, getD, take, drop}
@@ -17,6 +17,7 @@ use Rattle.model.specs.Tests.{_or_}
 use Rattle.model.specs.Sets.{Set, has}
 use Rattle.model.specs.Falsity.{someHolds, foldsHold, entryHolds}
 use Rattle.lanes.specs.Lanes.{inLane, lane}
+use Rattle.lanes.specs.Words.{total}
 
 -- ---- the bytes
 
@@ -95,11 +96,6 @@ pub record GreatestGiven (p : Program) (given trues set : Set) : Type 0 where
 pub record FalseWords (p : Program) (truth backing falses : List ℕ) : Type 0 where
   pub at : (l : ℕ) → l < 64
       → GreatestGiven p (lane (judged (p .atoms)) l backing) (lane (judged (p .atoms)) l truth) (lane (judged (p .atoms)) l falses)
-
--- The sum of some words: it falls with each bit that is taken.
-unfoldable pub total : List ℕ → ℕ
-total [] = 0
-total (w ∷ more) = w + total more
 
 -- What dropping the first `upto` objective literals that are not backed does to the words.
 pub record DroppedTo (upto : ℕ) (p : Program) (truth backing before after : List ℕ) (changed : Bool) : Type 0 where

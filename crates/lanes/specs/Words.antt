@@ -1,8 +1,8 @@
 -- Sixty-four scenarios at once: the word of a literal, and that of a body.
 use mathlib.Core.Path.{_≡_}
 use mathlib.Core.Bool.{cond}
-use mathlib.Core.List.{List}
-use Prim.Native.Nat.{ℕ, _*_, _<_}
+use mathlib.Core.List.{List, [], _∷_}
+use Prim.Native.Nat.{ℕ, _+_, _*_, _<_}
 use lib.ListN.{length, getD}
 use Rattle.literals.specs.Numbering.{objectiveNumber, defaultNegated}
 use Rattle.papers.specs.Valid.{All}
@@ -20,6 +20,11 @@ pub record Literals (n : ℕ) (body : List ℕ) : Type 0 where
 -- A body's word: the lanes in which it holds, of however many objective literals it speaks.
 pub record BodyWord (body set negated : List ℕ) (word : ℕ) : Type 0 where
   pub in-lane : (n : ℕ) → Literals n body → (l : ℕ) → l < 64 → inLane l word ≡ bodyHolds (lane n l set) (lane n l negated) body
+
+-- The sum of some words: it rises with each bit that comes in, and falls with each that goes.
+unfoldable pub total : List ℕ → ℕ
+total [] = 0
+total (w ∷ more) = w + total more
 
 -- What the type of an array of words says: a word for each judged literal that a file can have, each of 64 lanes.
 pub record Laned (words : List ℕ) : Type 0 where

@@ -76,6 +76,21 @@ unfolding _or_
 or-false true = refl
 or-false false = refl
 
+pub and-true : (b : Bool) → (b and true) ≡ b
+unfolding _and_
+and-true true = refl
+and-true false = refl
+
+pub and-assoc : (a b c : Bool) → ((a and b) and c) ≡ (a and (b and c))
+unfolding _and_
+and-assoc true b c = refl
+and-assoc false b c = refl
+
+pub or-assoc : (a b c : Bool) → ((a or b) or c) ≡ (a or (b or c))
+unfolding _or_
+or-assoc true b c = refl
+or-assoc false b c = refl
+
 pub true-or : (b : Bool) → (true or b) ≡ true
 unfolding _or_
 true-or b = refl

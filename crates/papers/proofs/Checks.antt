@@ -1,7 +1,7 @@
 -- Laws of checks and outcomes: what passed checks tell, and what was accepted on the way to an acceptance.
 -- Assumes nothing.
 use mathlib.Core.Path.{_≡_, refl}
-use mathlib.Core.Bool.{Bool, true, false}
+use mathlib.Core.Bool.{Bool, true, false, _&&_}
 use Prim.Native.Nat.{ℕ, zero, suc}
 use native.Mathlib.Omega.{arith}
 use Rattle.papers.specs.declared.Paper.{Paper}
@@ -9,6 +9,11 @@ use Rattle.papers.specs.declared.Refusal.{Refusal}
 use Rattle.papers.specs.Outcome.{Outcome, accepted, refused, refusal, check, passing, andThen}
 
 -- ---- checks
+
+-- Of two tests that pass, each does.
+pub both : (a b : Bool) → (a && b) ≡ true → (a ≡ true) × (b ≡ true)
+both true b e = (refl, e)
+both false b e = absurd (let z : _≡_ {A = ℕ} 0 1 = cc in omega arith)
 
 -- A check that failed has a number above 0, so where the checks give 0 this one passed, and so did the others.
 pub checked : (b : Bool) (n others : ℕ) → check b (suc n) others ≡ 0 → (b ≡ true) × (others ≡ 0)

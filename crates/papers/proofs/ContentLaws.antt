@@ -2,7 +2,7 @@
 -- test, "tells" back.
 -- Assumes nothing.
 use mathlib.Core.Path.{_≡_, refl}
-use mathlib.Core.Bool.{Bool, true, false, not, _&&_}
+use mathlib.Core.Bool.{true, not}
 use mathlib.Core.List.{List, [], _∷_, map}
 use Prim.Native.Nat.{ℕ, suc, _+_, _*_, _/_, _%_, _≤_, _<_}
 use native.Mathlib.Omega.{arith}
@@ -16,7 +16,7 @@ use Rattle.papers.specs.Encoding.{ruleNumbers}
 use Rattle.papers.specs.Reading.{ruleOf}
 use Rattle.papers.specs.Valid.{All, Rising, ValidBody, ValidRule}
 use Rattle.papers.specs.Valid.{All.none as nothing, All.each as each, Rising.none as flat, Rising.next as above}
-use Rattle.papers.proofs.Checks.{checked}
+use Rattle.papers.proofs.Checks.{both, checked}
 use Rattle.papers.proofs.RunLaws.{GoodContent}
 use Rattle.papers.proofs.Lists.{all-map, all-each, map-undone}
 
@@ -77,10 +77,6 @@ unfolding lengthAllowed
 length-fits tag count h a b =
     let even = eq-eqb (2 * count % 2) 0 (omega arith) in
     rw (ne-eqb tag 1 h, even, le-leb (2 * fewest tag) (2 * count) (omega arith), le-leb (2 * count) (2 * most tag) (omega arith))
-
-both : (a b : Bool) → (a && b) ≡ true → (a ≡ true) × (b ≡ true)
-both true b e = (refl, e)
-both false b e = absurd (let z : _≡_ {A = ℕ} 0 1 = cc in omega arith)
 
 pub length-tells : (tag count : ℕ) → (tag ≡ 1 → ⊥) → lengthAllowed tag (2 * count) ≡ true → (fewest tag ≤ count) × (count ≤ most tag)
 unfolding lengthAllowed

@@ -44,7 +44,7 @@ module _ (tag : ℕ) (content rest : List ℕ) where
         le-leb (3 + length content) (length (encodeField tag content ++ rest)) (omega arith),
       )
 
-  content-encoded : contentOf (encodeField tag content ++ rest) ≡ content
+  pub content-encoded : contentOf (encodeField tag content ++ rest) ≡ content
   unfolding contentOf
   content-encoded = rw size-encoded (unfold encodeField in take-at content rest (length content) refl)
 

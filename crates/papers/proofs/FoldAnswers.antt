@@ -1,6 +1,6 @@
 -- The rules of an accepted file, as the code that walks them meets them.
 -- Assumes nothing.
-use mathlib.Core.Path.{_≡_, refl, sym, ap, _∙_}
+use mathlib.Core.Path.{_≡_, sym, ap, _∙_}
 use mathlib.Core.List.{List}
 use Prim.Native.Nat.{ℕ, _+_, _-_, _*_, _≤_, _<_}
 use native.Mathlib.Omega.{arith}
@@ -12,25 +12,14 @@ use Rattle.papers.specs.Program.{allRules, ruleAt}
 use Rattle.papers.specs.Outcome.{accepted}
 use Rattle.papers.specs.Field.{number, numbers, sizeOf}
 use Rattle.papers.specs.Reading.{readFile, programIn}
-use Rattle.papers.specs.Answers.{contentsOf, fileAnswer}
+use Rattle.papers.specs.Answers.{fileAnswer}
 use Rattle.papers.specs.Places.{fieldNumbers, foldPlace, Walked, BodyOf}
 use Rattle.papers.specs.Valid.{Valid}
 use Rattle.papers.proofs.NumberLaws.{Bytes}
 use Rattle.papers.proofs.Accepted.{accepted-valid}
 use Rattle.papers.proofs.FoldLaws.{abducibles-content, abducibles-within, fold-count, fold-first, fold-next, fold-size, fold-within}
 use Rattle.papers.proofs.RuleLaws.{rules-count, rule-fitting, integrity-head, head-within, BodyAt, rule-part, integrity-part, rule-head}
-use Rattle.papers.proofs.Answered.{file-accepted}
-
--- The answer of an accepted file tells of the program in it.
-pub record Told (bytes : List ℕ) (contents : Contents) : Type 0 where
-  pub is : readFile bytes ≡ accepted (programIn bytes)
-  pub contents-are : contentsOf (programIn bytes) ≡ contents
-
-pub told : (bytes : List ℕ) (contents : Contents) → fileAnswer (readFile bytes) ≡ Accepted contents → Told bytes contents
-unfolding programIn
-told bytes contents e =
-    let f = file-accepted (readFile bytes) (sym e) refl in
-    record { is = rw (f .is); contents-are = rw (f .is) (f .told) }
+use Rattle.papers.proofs.FileFacts.{told, program-valid, atoms-are, abducibles-are}
 
 module _ (bytes : List ℕ) (contents : Contents) (answer : fileAnswer (readFile bytes) ≡ Accepted contents) where
   pub folds-counted : contents .rules .count + contents .integrity .count ≡ length (fieldNumbers (programIn bytes))
@@ -48,20 +37,20 @@ module _ (bytes : List ℕ) (contents : Contents) (answer : fileAnswer (readFile
       → (12 + 2 * contents .abducibles ≤ length bytes) × (numbers (take (2 * contents .abducibles) (drop 12 bytes)) ≡ (programIn bytes) .abducibles)
   abducibles-there b =
       let t = told bytes contents answer in
-      let k : length ((programIn bytes) .abducibles) ≡ contents .abducibles = ap (λ (x : Contents). x .abducibles) (t .contents-are) in
+      let k = abducibles-are bytes contents answer in
       let w = abducibles-within bytes (programIn bytes) b (t .is) in
       (omega arith, rw k at (abducibles-content bytes (programIn bytes) b (t .is)))
 
   pub few-folds : contents .rules .count + contents .integrity .count ≤ 1280
   few-folds =
       let t = told bytes contents answer in
-      let v = accepted-valid bytes (programIn bytes) (t .is) in
+      let v = program-valid bytes contents answer in
       let c = folds-counted in
       omega (arith, fold-count (programIn bytes), v .fewRules, v .fewIntegrity)
 
   -- A body has at most 16 literals.
   pub few-body : (fold : ℕ) → fold < length (allRules (programIn bytes)) → length ((ruleAt (programIn bytes) fold) .body) ≤ 16
-  few-body fold h = rule-fitting (programIn bytes) (accepted-valid bytes (programIn bytes) (told bytes contents answer .is)) fold h .body .few
+  few-body fold h = rule-fitting (programIn bytes) (program-valid bytes contents answer) fold h .body .few
 
   pub first-place : contents .rules .place ≡ foldPlace (programIn bytes) 0
   first-place = sym (fold-first (programIn bytes) ∙ ap (λ (x : Contents). x .rules .place) (told bytes contents answer .contents-are))
@@ -93,9 +82,6 @@ module _ (bytes : List ℕ) (contents : Contents) (places : List ℕ) (w : Walke
 
   rules-are : length ((programIn bytes) .rules) ≡ contents .rules .count
   rules-are = ap (λ (x : Contents). x .rules .count) (told bytes contents (w .answer) .contents-are)
-
-  atoms-are : (programIn bytes) .atoms ≡ contents .atoms
-  atoms-are = ap (λ (x : Contents). x .atoms) (told bytes contents (w .answer) .contents-are)
 
   counted : fold < contents .rules .count + contents .integrity .count
   counted = omega (arith, folds-counted bytes contents (w .answer), rules-count (programIn bytes))
@@ -133,7 +119,7 @@ module _ (bytes : List ℕ) (contents : Contents) (places : List ℕ) (w : Walke
   pub head-falsum : contents .rules .count ≤ fold → (2 * contents .atoms ≡ (ruleAt (programIn bytes) fold) .head) × (2 * contents .atoms < 513)
   head-falsum h =
       let c = rules-are in
-      let a = atoms-are in
+      let a = atoms-are bytes contents (w .answer) in
       let k = head-few in
       let e = integrity-head (programIn bytes) fold (omega arith) here in
       (omega arith, omega arith)

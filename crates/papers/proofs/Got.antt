@@ -15,6 +15,7 @@ use Rattle.papers.specs.declared.FieldRead.the-variants.{Content, Refuse
 use Rattle.papers.specs.Outcome.{Outcome, accepted, refused}
 use Rattle.papers.specs.Field.{fewest, most, lengthAllowed, readField}
 use Rattle.papers.specs.Answers.{fieldAnswer}
+use Rattle.papers.proofs.Checks.{both}
 use Rattle.papers.proofs.FieldLaws.{field-tells}
 
 -- The field is whole, and its content is the part of the paper from start to end.
@@ -59,10 +60,6 @@ module _ (paper : Paper) (tag : ℕ) (full : Bool) (place : ℕ) (bytes : List �
 pub edition-length : (len : ℕ) → lengthAllowed 0x01 len ≡ true → len ≡ 1
 unfolding lengthAllowed
 edition-length len h = eqb-true len 1 h
-
-both : (a b : Bool) → (a && b) ≡ true → (a ≡ true) × (b ≡ true)
-both true b h = (refl, h)
-both false b h = absurd (let z : _≡_ {A = ℕ} 0 1 = cc in omega arith)
 
 -- Any other field has an even length between its bounds.
 pub record Pairs (tag len : ℕ) : Type 0 where

@@ -19,5 +19,6 @@ pub mod RunAnswers
 pub mod Answered
 pub mod RulesAnswers
 pub mod FileAnswers
+pub mod FileFacts
 pub mod FoldAnswers
 pub mod PapersAnswers

@@ -6,7 +6,7 @@ use Prim.Native.Nat.{ℕ, zero, suc, _+_, _-_, _<_}
 use native.Mathlib.Decide.{ℕ-discrete}
 use native.Mathlib.Omega.{arith}
 use lib.ListN.{length, getD, take, drop, set}
-use lib.Seq.{take-nil, drop-drop, drop-at, getD-set-same, getD-set-other}
+use lib.Seq.{take-nil, drop-drop, drop-at, getD-drop, getD-set-same, getD-set-other}
 use Rattle.papers.specs.Valid.{All, none, each}
 
 module _ {A B : Type 0} {P : A → Type 0} where
@@ -51,3 +51,11 @@ set-more l i v f within e below j h = elim (ℕ-discrete j i) [
   | yes q ↦ rw q (getD-set-same l i v 0 within ∙ e)
   | no q ↦ getD-set-other l i j v 0 q ∙ below j (omega arith)
 ]
+
+-- What stands at a place, and after it.
+module _ {A : Type 0} (all : List A) (j : ℕ) {first : A} {more : List A} (e : drop j all ≡ first ∷ more) where
+  pub at-place : (d : A) → getD all j d ≡ first
+  at-place d = let z : j + 0 ≡ j = omega arith in rw (← z, ← getD-drop j all 0 d, e)
+
+  pub past-place : drop (j + 1) all ≡ more
+  past-place = sym (drop-drop 1 j all) ∙ rw e

@@ -35,6 +35,11 @@ module _ (content : List ℕ) (i : ℕ) where
       ∙ ap (λ (j : ℕ). number (getD content (2 * i) 0) (getD content j 0) ∷ numbers (drop (suc j) content)) (let e : suc (2 * i) ≡ 2 * i + 1 = omega arith in e)
       ∙ ap (λ (j : ℕ). number (getD content (2 * i) 0) (getD content (2 * i + 1) 0) ∷ numbers (drop j content)) (let e : suc (2 * i + 1) ≡ 2 * (i + 1) = omega arith in e)
 
+  -- The same, where the i-th was read as x.
+  pub read-number : i < length content / 2 → {x : ℕ} → x ≡ number (getD content (2 * i) 0) (getD content (2 * i + 1) 0)
+      → numbers (drop (2 * i) content) ≡ x ∷ numbers (drop (2 * (i + 1)) content)
+  read-number h e = next-number h ∙ ap (λ (x : ℕ). x ∷ numbers (drop (2 * (i + 1)) content)) (sym e)
+
   module _ (n : ℕ) where
     pub literals-done : length content / 2 ≤ i → literalsFault n (numbers (drop (2 * i) content)) ≡ 0
     unfolding literalsFault
@@ -51,7 +56,7 @@ module _ (content : List ℕ) (i : ℕ) where
     -- One turn: the number that was read is the i-th.
     module _ (here : i < length content / 2) {l : ℕ} (is : l ≡ number (getD content (2 * i) 0) (getD content (2 * i + 1) 0)) where
       one : numbers (drop (2 * i) content) ≡ l ∷ numbers (drop (2 * (i + 1)) content)
-      one = next-number here ∙ ap (λ (x : ℕ). x ∷ numbers (drop (2 * (i + 1)) content)) (sym is)
+      one = read-number here is
 
       pub literals-stop : 4 * n ≤ l → literalsFault n (numbers (drop (2 * i) content)) ≡ 6
       unfolding literalsFault

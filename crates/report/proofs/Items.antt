@@ -1,11 +1,11 @@
 -- The items of a found line: each assumed or ruled-out abducible. Assumes nothing.
-use mathlib.Core.Path.{_≡_, sym, ap, _∙_}
+use mathlib.Core.Path.{_≡_, ap}
 use mathlib.Core.List.{List, [], _∷_, _++_, append-nil}
 use Prim.Native.Nat.{ℕ, _+_, _*_, _/_, _%_, _≤_, _<_}
 use borrow.Author.Tests.{eq-eqb, ne-eqb}
 use lib.ListN.{length, getD, drop}
 use Rattle.papers.specs.Field.{number, numbers}
-use Rattle.papers.proofs.Walking.{next-number, no-number}
+use Rattle.papers.proofs.Walking.{read-number, no-number}
 use Rattle.report.specs.Decimal.{decimal}
 use Rattle.report.specs.Text.{spaced}
 use Rattle.report.specs.Lines.{sign, assumption, assumptions}
@@ -40,5 +40,5 @@ module _ (content : List ℕ) (i rest : ℕ) where
       → spaced (assumptions (numbers (drop (2 * i) content)) rest) ≡ spaced (assumption atom (rest % 3)) ++ spaced (assumptions (numbers (drop (2 * (i + 1)) content)) (rest / 3))
   unfolding assumptions
   items-next atom h e =
-      let n : numbers (drop (2 * i) content) ≡ atom ∷ numbers (drop (2 * (i + 1)) content) = next-number content i h ∙ ap (λ (x : ℕ). x ∷ numbers (drop (2 * (i + 1)) content)) (sym e) in
+      let n : numbers (drop (2 * i) content) ≡ atom ∷ numbers (drop (2 * (i + 1)) content) = read-number content i h e in
       rw n (spaced-append (assumption atom (rest % 3)) (assumptions (numbers (drop (2 * (i + 1)) content)) (rest / 3)))

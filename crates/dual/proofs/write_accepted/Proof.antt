@@ -9,8 +9,9 @@ use lib.ListN.{length, length-drop}
 use Rattle.papers.specs.Outcome.{accepted}
 use Rattle.papers.specs.Program.{Program}
 use Rattle.papers.specs.Reading.{readFile, programIn}
-use Rattle.papers.proofs.FoldAnswers.{told}
-use Rattle.dual.proofs.FilledLaws.{put-end, part-end}
+use Rattle.papers.proofs.FileFacts.{told}
+use Rattle.papers.proofs.Walking.{to-end}
+use Rattle.dual.proofs.FilledLaws.{put-end}
 use Rattle.dual.proofs.TableWriting.{table-length, end-written, dual-short, dual-length-is, dual-fits}
 use borrow.Author.Needs.{needs}
 use Rattle.dual.proofs.write_accepted.Statement.{statement}
@@ -83,7 +84,7 @@ part-write-end-end c = search needs
 write-end-requires : tie.Need-write-end-requires
 write-end-requires c κs =
     let w = c .before .before .before .write-entries in
-    let p = ap length (part-end (w .result) (w .last .0)) in
+    let p = ap length (to-end (w .result) (w .last .0)) in
     let d = length-drop (w .result) (w .last .0) in
     omega (arith, room (c .before .before .before))
 
@@ -103,7 +104,7 @@ returns-3 c =
       rw (not-false (a .allowed) (entries .before .before .before .before .if2 .left)) (dual-fits (now (a .file)) (now (a .dual)) (program s) (read s) size fits _
           (put-end (w .result) (w .last .0) (ended .last .0)
           ∙ end-written (program s) (now (a .dual)) (w .last .0) (ended .last .0) (w .result) (w .ensures .0) (w .ensures .1)
-          (rw (part-end (w .result) (w .last .0)) at (ended .ensures)))),
+          (rw (to-end (w .result) (w .last .0)) at (ended .ensures)))),
     )
 
 pub write-accepted-spec : {M : Type 1} → statement M

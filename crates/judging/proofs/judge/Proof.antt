@@ -17,10 +17,9 @@ use Rattle.papers.specs.Outcome.{accepted}
 use Rattle.papers.specs.Reading.{Papers, readFile, readPapers, programIn}
 use Rattle.papers.specs.Answers.{papersAnswer}
 use Rattle.papers.proofs.Answered.{papers-refused}
-use Rattle.papers.proofs.FoldAnswers.{told}
+use Rattle.papers.proofs.FileFacts.{told, program-valid, atoms-are}
 use Rattle.papers.proofs.PapersAnswers.{BothTold, both-told}
 use Rattle.dual.specs.Answers.{dualOf, filled}
-use Rattle.dual.proofs.FileFacts.{program-valid, atoms-are}
 use Rattle.dual.proofs.BothPapers.{papersIn, both-read, both-asked, few-abducibles, few-literals, scenarios-are}
 use Rattle.dual.proofs.BothPapers.{other-told, dual-fits, dual-short, dual-stays, dual-kept, dual-filled}
 use Rattle.lanes.specs.FalseWords.{DualStarts}

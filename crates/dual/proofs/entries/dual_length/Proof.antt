@@ -12,7 +12,8 @@ use Rattle.papers.specs.declared.FileRead.the-variants.{Accepted}
 use Rattle.papers.specs.Answers.{fileAnswer}
 use Rattle.papers.specs.Reading.{readFile, programIn}
 use Rattle.dual.specs.Length.{entriesLength, dualLength}
-use Rattle.dual.proofs.FileFacts.{atoms-are, few-atoms, dual-few}
+use Rattle.papers.proofs.FileFacts.{program-valid, atoms-are, few-atoms}
+use Rattle.dual.proofs.Bound.{dual-bound}
 use Rattle.dual.proofs.EntryLaws.{entries-next, entries-none}
 use Rattle.dual.proofs.entries.dual_length.Statement.{statement}
 use Rattle.dual.proofs.entries.dual_length.Tie as tie
@@ -26,7 +27,7 @@ abbrev μ-loop : tie.MeasureT-loop
 -- All of them fit.
 whole : (bytes : List ℕ) (contents : Contents) (answer : fileAnswer (readFile bytes) ≡ Accepted contents) → entriesLength (programIn bytes) (2 * contents .atoms + 1) 0 + 3 ≤ 52488
 unfolding dualLength
-whole bytes contents answer = subst (λ (n : ℕ). entriesLength (programIn bytes) (2 * n + 1) 0 + 3 ≤ 52488) (atoms-are bytes contents answer) (dual-few bytes contents answer)
+whole bytes contents answer = subst (λ (n : ℕ). entriesLength (programIn bytes) (2 * n + 1) 0 + 3 ≤ 52488) (atoms-are bytes contents answer) (dual-bound (programIn bytes) (program-valid bytes contents answer))
 
 next : (c : tie.After-entry-length Inv-loop μ-loop) → c .before .before .loop .total + entriesLength (programIn (now (c .before .before .before .before .before .args .file))) (2 * c .before .before .before .before .before .args .contents .atoms + 1 - c .before .before .loop .o) (c .before .before .loop .o)
     ≡ c .before .before .loop .total + c .entry-length .result + entriesLength (programIn (now (c .before .before .before .before .before .args .file))) (2 * c .before .before .before .before .before .args .contents .atoms + 1 - (c .before .before .loop .o + 1)) (c .before .before .loop .o + 1)

@@ -14,8 +14,9 @@ use Rattle.papers.specs.Reading.{programIn}
 use Rattle.dual.specs.Table.{entryIfAny}
 use Rattle.dual.specs.Encoding.{encodeFields}
 use Rattle.dual.specs.Answers.{filled}
-use Rattle.dual.proofs.FileFacts.{atoms-are, few-atoms}
-use Rattle.dual.proofs.FilledLaws.{put-end, part-end}
+use Rattle.papers.proofs.FileFacts.{atoms-are, few-atoms}
+use Rattle.papers.proofs.Walking.{to-end}
+use Rattle.dual.proofs.FilledLaws.{put-end}
 use Rattle.dual.proofs.TableWriting.{table-room, Tabled, tabled-none, tabled-more, tabled-done}
 use Rattle.dual.proofs.entries.write_entries.Statement.{statement}
 use Rattle.dual.proofs.entries.write_entries.Tie as tie
@@ -80,7 +81,7 @@ write-any-entry-requires c κs =
     let at = c .before .before .loop in
     let s = start (c .before .before) in
     let r = room (c .before) in
-    let p = ap length (part-end (at .end) (at .buffer)) in
+    let p = ap length (to-end (at .end) (at .buffer)) in
     let d = length-drop (at .end) (at .buffer) in
     let few = few-atoms (now (s .args .file)) (s .args .contents) (s .pre .0 .answer) in
     (s .pre .0, (s .pre .1 .0, (omega arith, omega (arith, at .inv .1 .1))))
@@ -102,7 +103,7 @@ loop-again c =
     let end = head .loop .end in
     let buffer = head .loop .buffer in
     let part = wrote .last .0 in
-    let written : part ≡ filled (entry head) (drop end buffer) = rw (part-end end buffer) at (wrote .ensures .1) in (
+    let written : part ≡ filled (entry head) (drop end buffer) = rw (to-end end buffer) at (wrote .ensures .1) in (
       omega arith,
       (
         rw (put-end end buffer part) (tabled-more (program s) (now (s .args .buffer)) buffer (head .loop .o) end (head .loop .inv .1 .0) part (wrote .result) written (wrote .ensures .0)),

@@ -2,7 +2,8 @@
 -- Assumes nothing.
 use lib.ListN.{length-drop}
 use borrow.Rule.Slice.PartMut.{same-len-mid}
-use Rattle.dual.proofs.FilledLaws.{put-end, part-end}
+use Rattle.papers.proofs.Walking.{to-end}
+use Rattle.dual.proofs.FilledLaws.{put-end}
 use mathlib.Core.Path.{_≡_, refl, ap, _∙_}
 use mathlib.Core.List.{List, _∷_}
 use Prim.Native.Nat.{ℕ, _+_, _-_, _*_, _≤_, _<_}
@@ -134,7 +135,7 @@ write-fold-requires c κs =
     let r = room turn in
     let l = ap length (body .literals) in
     let o = one-length (allRules (program s)) (at .fold) in
-    let p = ap length (part-end (at .end) (at .buffer)) in
+    let p = ap length (to-end (at .end) (at .buffer)) in
     let d = length-drop (at .end) (at .buffer) in
     let few = few-body (now (s .args .file)) (s .args .contents) (s .pre .0 .answer) (at .fold) (of-literal turn .below) in
     (omega (arith, body .size), (omega arith, (omega (arith, body .size), omega (arith, body .size))))
@@ -158,7 +159,7 @@ loop-again c =
     let end = head t .loop .end in
     let buffer = head t .loop .buffer in
     let part = w .write-fold .last .0 in
-    let written : part ≡ filled (field t) (drop end buffer) = rw (body w .body-of .ensures .literals, part-end end buffer) at (w .write-fold .ensures .1) in (
+    let written : part ≡ filled (field t) (drop end buffer) = rw (body w .body-of .ensures .literals, to-end end buffer) at (w .write-fold .ensures .1) in (
       rw (put-end end buffer part) (entered-next _ _ _ _ _ _ _ _ (head t .loop .inv .0) (fits (literal t)) (t .loop-test .taken) part (w .write-fold .result) written (size w)),
       same-len-mid end (length buffer - end) buffer part (w .write-fold .kept .0) ∙ head t .loop .inv .1,
     )

@@ -7,7 +7,7 @@ use native.Mathlib.Omega.{arith}
 use denote.Ref.{now}
 use Rattle.papers.specs.Field.{numbers}
 use Rattle.papers.specs.Reading.{programIn}
-use Rattle.dual.proofs.FileFacts.{atoms-are, few-atoms}
+use Rattle.papers.proofs.FileFacts.{atoms-are, few-atoms}
 use Rattle.lanes.specs.VerdictLanes.{ExplainedWord}
 use Rattle.lanes.proofs.VerdictLaws.{query-listed, verdict-lanes}
 use Rattle.judging.proofs.JudgingLaws.{first-verdict, first-filled}

@@ -14,8 +14,8 @@ use Rattle.papers.specs.Field.{numbers}
 use Rattle.papers.specs.Reading.{readFile, programIn}
 use Rattle.papers.specs.Answers.{fileAnswer}
 use Rattle.papers.proofs.NumberLaws.{Bytes}
-use Rattle.papers.proofs.FoldAnswers.{abducibles-there, told}
-use Rattle.dual.proofs.FileFacts.{program-valid}
+use Rattle.papers.proofs.FoldAnswers.{abducibles-there}
+use Rattle.papers.proofs.FileFacts.{told, program-valid}
 use Rattle.model.specs.Scenarios.{trueAbducible, falseAbducible}
 use Rattle.lanes.proofs.SeedLaws.{Seeded, Seeding, seeding-none, seeding-done, seeding-below, seeding-more}
 use Rattle.lanes.proofs.digits.abducible_lanes.Statement.{statement}

@@ -7,7 +7,7 @@ use denote.Ref.{now}
 use Rattle.literals.specs.Numbering.{judged}
 use Rattle.papers.specs.Program.{Program}
 use Rattle.papers.specs.Reading.{programIn}
-use Rattle.dual.proofs.FileFacts.{program-valid, atoms-are, few-atoms}
+use Rattle.papers.proofs.FileFacts.{program-valid, atoms-are, few-atoms}
 use Rattle.lanes.specs.Lanes.{lane, BackingWords}
 use Rattle.model.proofs.FalsityLaws.{falsity-from-dual}
 use Rattle.lanes.proofs.ClosingLaws.{closed-true-set}

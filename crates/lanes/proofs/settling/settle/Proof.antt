@@ -8,7 +8,7 @@ use native.Mathlib.Omega.{arith}
 use denote.Ref.{now}
 use Rattle.papers.specs.Program.{Program}
 use Rattle.papers.specs.Reading.{programIn}
-use Rattle.dual.proofs.FileFacts.{atoms-are, few-atoms}
+use Rattle.papers.proofs.FileFacts.{atoms-are, few-atoms}
 use Rattle.lanes.proofs.SettlingLaws.{Settling, settling-start, settling-next}
 use Rattle.lanes.proofs.settling.settle.Statement.{statement}
 use Rattle.lanes.proofs.settling.settle.Tie as tie

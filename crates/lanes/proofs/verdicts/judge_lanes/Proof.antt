@@ -8,7 +8,7 @@ use denote.Ref.{now}
 use Rattle.papers.specs.Field.{numbers}
 use Rattle.papers.specs.Program.{Program}
 use Rattle.papers.specs.Reading.{programIn}
-use Rattle.dual.proofs.FileFacts.{atoms-are, few-atoms}
+use Rattle.papers.proofs.FileFacts.{atoms-are, few-atoms}
 use Rattle.lanes.proofs.VerdictLaws.{query-listed, verdict-lanes}
 use Rattle.lanes.proofs.verdicts.judge_lanes.Statement.{statement}
 use Rattle.lanes.proofs.verdicts.judge_lanes.Tie as tie

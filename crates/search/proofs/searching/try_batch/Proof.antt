@@ -7,7 +7,7 @@ use borrow.Author.Needs.{needs}
 use denote.Ref.{now}
 use Rattle.papers.specs.Field.{numbers}
 use Rattle.papers.specs.Reading.{programIn}
-use Rattle.dual.proofs.FileFacts.{abducibles-are, atoms-are, few-atoms}
+use Rattle.papers.proofs.FileFacts.{abducibles-are, atoms-are, few-atoms}
 use Rattle.search.proofs.Batches.{tried-lanes}
 use Rattle.search.proofs.JudgedLanes.{judged-lanes, judged-cost}
 use Rattle.search.proofs.searching.try_batch.Statement.{statement}
