@@ -1,7 +1,8 @@
 -- What this crate's functions answer, as document 01's numbers and values: an accepted paper by its counts and the places of its
 -- fields, a refusal by its number, paper and place.
 use mathlib.Core.List.{List, [], _∷_, map}
-use Prim.Native.Nat.{ℕ, _+_, _*_}
+use Prim.Native.Nat.{ℕ, _+_, _*_, min}
+use denote.Ref.{RefT}
 use lib.ListN.{length, drop}
 use Rattle.papers.specs.declared.Paper.{Paper}
 use Rattle.papers.specs.declared.Paper.the-variants.{File, Sheet}
@@ -82,3 +83,17 @@ restFrom Sheet place file sheet = drop place sheet
 abbrev pub restOf : {A : Type 0} → Outcome A → List ℕ → List ℕ → List ℕ
 restOf (accepted p) file sheet = []
 restOf (refused r) file sheet = restFrom (r .paper) (r .place) file sheet
+
+-- Where the part of lent bytes begins that goes from a place to their end: their block of memory, and an offset into it. Past their end it
+-- begins there.
+abbrev pub partStart : RefT (List ℕ) → ℕ → ℕ × ℕ
+partStart bytes place = (bytes .ptr .0, min place (length (bytes .now)) + bytes .ptr .1)
+
+-- The rest is that paper's own bytes and no others: where it begins.
+abbrev pub startFrom : Paper → ℕ → RefT (List ℕ) → RefT (List ℕ) → ℕ × ℕ
+startFrom File place file sheet = partStart file place
+startFrom Sheet place file sheet = partStart sheet place
+
+abbrev pub restStart : {A : Type 0} → Outcome A → RefT (List ℕ) → RefT (List ℕ) → ℕ × ℕ
+restStart (accepted p) file sheet = partStart sheet (length (sheet .now))
+restStart (refused r) file sheet = startFrom (r .paper) (r .place) file sheet

@@ -5,7 +5,7 @@ mod file;
 ghost use mathlib.Core.Path.{_≡_};
 ghost use lib.ListN.{drop};
 ghost use Rattle.papers.specs.Reading.{readFile, readSheet, readPapers};
-ghost use Rattle.papers.specs.Answers.{countAnswer, fileAnswer, papersAnswer, restOf};
+ghost use Rattle.papers.specs.Answers.{countAnswer, fileAnswer, papersAnswer, restOf, partStart, restStart};
 use fields::content::literals_fault;
 use fields::field::read_field;
 use file::read_abducibles;
@@ -102,7 +102,7 @@ pub fn read_papers(file: &[u8], sheet: &[u8]) -> PapersRead
 
 // The part of a paper from a place; the empty part at its end where the place is past that.
 fn part_from(bytes: &[u8], place: usize) -> &[u8]
-    ensures { λ r. ⌜ now r ≡ drop place (now (bytes .entry)) ⌝ }
+    ensures { λ r. ⌜ (now r ≡ drop place (now (bytes .entry))) × (r .ptr ≡ partStart (bytes .entry) place) ⌝ }
 {
     let end = bytes.len();
     if place <= end {
@@ -115,7 +115,7 @@ fn part_from(bytes: &[u8], place: usize) -> &[u8]
 // The rest of the refused paper from its place, and the empty part at the sheet's end where neither
 // is refused.
 pub fn rest_of_paper<'a>(file: &'a [u8], sheet: &'a [u8]) -> &'a [u8]
-    ensures { λ r. ⌜ now r ≡ restOf (readPapers (now (file .entry)) (now (sheet .entry))) (now (file .entry)) (now (sheet .entry)) ⌝ }
+    ensures { λ r. ⌜ (now r ≡ restOf (readPapers (now (file .entry)) (now (sheet .entry))) (now (file .entry)) (now (sheet .entry))) × (r .ptr ≡ restStart (readPapers (now (file .entry)) (now (sheet .entry))) (file .entry) (sheet .entry)) ⌝ }
 {
     let read = read_papers(file, sheet);
     let PapersRead::Refused(refusal) = read else {

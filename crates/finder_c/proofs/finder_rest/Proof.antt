@@ -31,8 +31,13 @@ refusal-words-requires : tie.Need-refusal-words-requires
 refusal-words-requires c κs = search needs
 
 returns-2 : tie.Need-returns-2
-returns-2 c = let e = papers-refused (readPapers (now (c .before .before .before .before .before .before .before .before .args .file)) (now (c .before .before .before .before .before .before .before .before .args .sheet))) (c .before .before .before .before .before .read-papers .ensures) (c .before .before .before .read .given .1) in
-    rw e (c .refusal-words .ensures ∙ ap (λ (l : List ℕ). refusalWords (c .before .before .before .read .given .0 .0) (length l) 0) (rw e at (c .before .rest-of-paper .ensures)))
+returns-2 c =
+    let rest = c .before in
+    let told = rest .before .before in
+    let read = told .before .before in
+    let a = read .before .before .before .args in
+    let e = papers-refused (readPapers (now (a .file)) (now (a .sheet))) (read .read-papers .ensures) (told .read .given .1) in
+    rw e (c .refusal-words .ensures ∙ ap (λ (l : List ℕ). refusalWords (told .read .given .0 .0) (length l) 0) (rw e at (rest .rest-of-paper .ensures .0)))
 
 pub finder-rest-spec : {M : Type 1} → statement M
 finder-rest-spec =

@@ -22,7 +22,11 @@ part-from-requires : tie.Need-part-from-requires
 part-from-requires c κs = search needs
 
 returns : tie.Need-returns
-returns c = rw (papers-accepted (readPapers (now (c .before .before .before .before .before .before .args .file)) (now (c .before .before .before .before .before .before .args .sheet))) (c .before .before .before .read-papers .ensures) (c .before .enum-told .given .1) .is) (c .part-from .ensures ∙ drop-length (now (c .before .before .before .before .before .before .args .sheet)))
+returns c =
+    let read = c .before .before .before in
+    let a = read .before .before .before .args in
+    let q = papers-accepted (readPapers (now (a .file)) (now (a .sheet))) (read .read-papers .ensures) (c .before .enum-told .given .1) in
+    rw (q .is) (c .part-from .ensures .0 ∙ drop-length (now (a .sheet)), c .part-from .ensures .1)
 
 enum-told-2 : tie.Need-enum-told-2
 enum-told-2 c = search needs
@@ -37,10 +41,18 @@ part-from-requires-3 : tie.Need-part-from-requires-3
 part-from-requires-3 c κs = search needs
 
 returns-2 : tie.Need-returns-2
-returns-2 c = rw (papers-refused (readPapers (now (c .before .before .before .before .before .before .before .before .before .args .file)) (now (c .before .before .before .before .before .before .before .before .before .args .sheet))) (c .before .before .before .before .before .before .read-papers .ensures) (c .before .before .before .before .read .given .1), c .before .enum-told2 .given .1) (c .part-from2 .ensures)
+returns-2 c =
+    let read = c .before .before .before .before .before .before in
+    let a = read .before .before .before .args in
+    let e = papers-refused (readPapers (now (a .file)) (now (a .sheet))) (read .read-papers .ensures) (c .before .before .before .before .read .given .1) in
+    rw (e, c .before .enum-told2 .given .1) (c .part-from2 .ensures)
 
 returns-3 : tie.Need-returns-3
-returns-3 c = rw (papers-refused (readPapers (now (c .before .before .before .before .before .before .before .before .before .args .file)) (now (c .before .before .before .before .before .before .before .before .before .args .sheet))) (c .before .before .before .before .before .before .read-papers .ensures) (c .before .before .before .before .read .given .1), c .before .enum-told3 .given .1) (c .part-from3 .ensures)
+returns-3 c =
+    let read = c .before .before .before .before .before .before in
+    let a = read .before .before .before .args in
+    let e = papers-refused (readPapers (now (a .file)) (now (a .sheet))) (read .read-papers .ensures) (c .before .before .before .before .read .given .1) in
+    rw (e, c .before .enum-told3 .given .1) (c .part-from3 .ensures)
 
 pub rest-of-paper-spec : {M : Type 1} → statement M
 rest-of-paper-spec =
