@@ -7,6 +7,7 @@ pub mod ContentLaws
 pub mod RunLaws
 pub mod Written
 pub mod Accepted
+pub mod Placed
 pub mod Encoded
 pub mod Sizes
 pub mod FoldLaws

@@ -1,7 +1,7 @@
 -- What this crate's functions answer, as document 01's numbers and values: an accepted paper by its counts and the places of its
 -- fields, a refusal by its number, paper and place.
 use mathlib.Core.List.{List, [], _∷_, map}
-use Prim.Native.Nat.{ℕ, _+_, _*_, min}
+use Prim.Native.Nat.{ℕ, _+_, _*_}
 use denote.Ref.{RefT}
 use lib.ListN.{length, drop}
 use Rattle.papers.specs.declared.Paper.{Paper}
@@ -74,26 +74,25 @@ abbrev pub papersAnswer : Outcome Papers → PapersRead
 papersAnswer (accepted p) = papers.Accepted (contentsOf (p .program)) (length (p .query))
 papersAnswer (refused r) = papers.Refused r
 
--- The rest of one of two papers from a place.
+-- One of two papers.
+abbrev pub paperOf : {A : Type 0} → Paper → A → A → A
+paperOf File file sheet = file
+paperOf Sheet file sheet = sheet
+
+-- The rest of one of them from a place.
 abbrev pub restFrom : Paper → ℕ → List ℕ → List ℕ → List ℕ
-restFrom File place file sheet = drop place file
-restFrom Sheet place file sheet = drop place sheet
+restFrom paper place file sheet = drop place (paperOf paper file sheet)
 
 -- "The rest of that paper from the place", and "the empty part at the sheet's end where neither is refused".
 abbrev pub restOf : {A : Type 0} → Outcome A → List ℕ → List ℕ → List ℕ
 restOf (accepted p) file sheet = []
 restOf (refused r) file sheet = restFrom (r .paper) (r .place) file sheet
 
--- Where the part of lent bytes begins that goes from a place to their end: their block of memory, and an offset into it. Past their end it
--- begins there.
+-- Where the part of lent bytes from a place on begins: their block of memory, and an offset into it.
 abbrev pub partStart : RefT (List ℕ) → ℕ → ℕ × ℕ
-partStart bytes place = (bytes .ptr .0, min place (length (bytes .now)) + bytes .ptr .1)
+partStart bytes place = (bytes .ptr .0, place + bytes .ptr .1)
 
 -- The rest is that paper's own bytes and no others: where it begins.
-abbrev pub startFrom : Paper → ℕ → RefT (List ℕ) → RefT (List ℕ) → ℕ × ℕ
-startFrom File place file sheet = partStart file place
-startFrom Sheet place file sheet = partStart sheet place
-
 abbrev pub restStart : {A : Type 0} → Outcome A → RefT (List ℕ) → RefT (List ℕ) → ℕ × ℕ
 restStart (accepted p) file sheet = partStart sheet (length (sheet .now))
-restStart (refused r) file sheet = startFrom (r .paper) (r .place) file sheet
+restStart (refused r) file sheet = partStart (paperOf (r .paper) file sheet) (r .place)

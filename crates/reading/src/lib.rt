@@ -3,7 +3,8 @@
 mod file;
 
 ghost use mathlib.Core.Path.{_≡_};
-ghost use lib.ListN.{drop};
+ghost use Prim.Native.Nat.{_≤_};
+ghost use lib.ListN.{length, drop};
 ghost use Rattle.papers.specs.Reading.{readFile, readSheet, readPapers};
 ghost use Rattle.papers.specs.Answers.{countAnswer, fileAnswer, papersAnswer, restOf, partStart, restStart};
 use fields::content::literals_fault;
@@ -102,7 +103,7 @@ pub fn read_papers(file: &[u8], sheet: &[u8]) -> PapersRead
 
 // The part of a paper from a place; the empty part at its end where the place is past that.
 fn part_from(bytes: &[u8], place: usize) -> &[u8]
-    ensures { λ r. ⌜ (now r ≡ drop place (now (bytes .entry))) × (r .ptr ≡ partStart (bytes .entry) place) ⌝ }
+    ensures { λ r. ⌜ (now r ≡ drop place (now (bytes .entry))) × (place ≤ length (now (bytes .entry)) → r .ptr ≡ partStart (bytes .entry) place) ⌝ }
 {
     let end = bytes.len();
     if place <= end {

@@ -1,7 +1,6 @@
 -- `reading::part_from` meets its contract.
 -- Assumes nothing.
-use mathlib.Core.Path.{_≡_, sym, ap, _∙_}
-use Prim.Native.Nat.{ℕ, _+_, min}
+use mathlib.Core.Path.{refl, sym, _∙_}
 use native.Mathlib.Omega.{arith}
 use denote.Ref.{now}
 use native.Mathlib.Nat.{le-of-lt}
@@ -31,19 +30,13 @@ part-result-end-2 : tie.Need-part-result-end-2
 part-result-end-2 c = search needs
 
 returns : tie.Need-returns
-returns c =
-    let a = c .before .before .args in
-    let e : a .place ≡ min (a .place) (length (now (a .bytes))) = omega arith in
-    (to-end (a .place) (now (a .bytes)), ap (λ (n : ℕ). (a .bytes .ptr .0, n + a .bytes .ptr .1)) e)
+returns c = let a = c .before .before .args in (to-end (a .place) (now (a .bytes)), λ h. refl)
 
 returns-2 : tie.Need-returns-2
 returns-2 c =
-    let a = c .before .before .args in
-    let l = now (a .bytes) in
-    let e : length l ≡ min (a .place) (length l) = omega (arith, c .before .if1 .left) in (
-      to-end (length l) l ∙ drop-length l ∙ sym (drop-of-length-le l (le-of-lt (c .before .if1 .left))),
-      ap (λ (n : ℕ). (a .bytes .ptr .0, n + a .bytes .ptr .1)) e,
-    )
+    let l = now (c .before .before .args .bytes) in
+    let past = c .before .if1 .left in
+    (to-end (length l) l ∙ drop-length l ∙ sym (drop-of-length-le l (le-of-lt past)), λ h. absurd (omega arith))
 
 pub part-from-spec : {M : Type 1} → statement M
 part-from-spec =

@@ -2,9 +2,11 @@
 -- Assumes nothing.
 use mathlib.Core.Path.{_∙_}
 use denote.Ref.{now}
+use native.Mathlib.Omega.{arith}
 use lib.Seq.{drop-length}
 use Rattle.papers.specs.Reading.{readPapers}
 use Rattle.papers.proofs.Answered.{papers-accepted, papers-refused}
+use Rattle.papers.proofs.Placed.{refused-within}
 use borrow.Author.Needs.{needs}
 use Rattle.reading.proofs.rest_of_paper.Statement.{statement}
 use Rattle.reading.proofs.rest_of_paper.Tie as tie
@@ -26,7 +28,7 @@ returns c =
     let read = c .before .before .before in
     let a = read .before .before .before .args in
     let q = papers-accepted (readPapers (now (a .file)) (now (a .sheet))) (read .read-papers .ensures) (c .before .enum-told .given .1) in
-    rw (q .is) (c .part-from .ensures .0 ∙ drop-length (now (a .sheet)), c .part-from .ensures .1)
+    rw (q .is) (c .part-from .ensures .0 ∙ drop-length (now (a .sheet)), c .part-from .ensures .1 (omega arith))
 
 enum-told-2 : tie.Need-enum-told-2
 enum-told-2 c = search needs
@@ -45,14 +47,18 @@ returns-2 c =
     let read = c .before .before .before .before .before .before in
     let a = read .before .before .before .args in
     let e = papers-refused (readPapers (now (a .file)) (now (a .sheet))) (read .read-papers .ensures) (c .before .before .before .before .read .given .1) in
-    rw (e, c .before .enum-told2 .given .1) (c .part-from2 .ensures)
+    let paper = c .before .enum-told2 .given .1 in
+    let within = rw paper at (refused-within (now (a .file)) (now (a .sheet)) _ e) in
+    rw (e, paper) (c .part-from2 .ensures .0, c .part-from2 .ensures .1 within)
 
 returns-3 : tie.Need-returns-3
 returns-3 c =
     let read = c .before .before .before .before .before .before in
     let a = read .before .before .before .args in
     let e = papers-refused (readPapers (now (a .file)) (now (a .sheet))) (read .read-papers .ensures) (c .before .before .before .before .read .given .1) in
-    rw (e, c .before .enum-told3 .given .1) (c .part-from3 .ensures)
+    let paper = c .before .enum-told3 .given .1 in
+    let within = rw paper at (refused-within (now (a .file)) (now (a .sheet)) _ e) in
+    rw (e, paper) (c .part-from3 .ensures .0, c .part-from3 .ensures .1 within)
 
 pub rest-of-paper-spec : {M : Type 1} → statement M
 rest-of-paper-spec =
