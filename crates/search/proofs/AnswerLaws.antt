@@ -14,12 +14,11 @@ use Rattle.papers.proofs.PapersAnswers.{BothTold}
 use Rattle.dual.specs.Answers.{dualOf, filled}
 use Rattle.dual.proofs.BothPapers.{papersIn, scenarios-are}
 use Rattle.search.specs.declared.Report.{Report as Told}
-use Rattle.search.specs.declared.Continued.{Continued}
 use Rattle.search.specs.declared.Continued.the-variants.{Reported, ShortDual, SpoiltSearch, Refused}
 use Rattle.steps.specs.declared.Record.{Record}
 use Rattle.steps.specs.Continuing.{continue}
 use Rattle.steps.specs.Spoilt.{spoiltBy, spoilt}
-use Rattle.search.specs.Searching.{problemOf, callOf, toldReport, continueAnswer, dualContinued, listContinued}
+use Rattle.search.specs.Searching.{problemOf, callOf, toldReport, Answers}
 use Rattle.steps.proofs.Calling.{answer-refused, answer-spoilt, answer-made}
 
 -- ---- the papers
@@ -31,12 +30,6 @@ module _ {file sheet : List ℕ} {contents : Contents} {literals : ℕ} (both : 
   spoilt-is counted from list e = sym (e ∙ ap (λ (n : ℕ). spoiltBy n from list) (scenarios-are both counted))
 
 -- ---- the answers
-
--- What `continue_search` ensures.
-abbrev pub Answers : Outcome Papers → ℕ → List ℕ → Record → List ℕ → Continued → List ℕ → List ℕ → Type 0
-Answers read w dual from list r after left =
-    (r ≡ continueAnswer read w (length dual) from list)
-    × ((after ≡ dualContinued read w dual from list) × (left ≡ listContinued read w (length dual) from list))
 
 -- 1 to 10.
 pub answers-refused : {read : Outcome Papers} {r : Refusal} → read ≡ refused r → (w : ℕ) (dual : List ℕ) (from : Record) (list : List ℕ)

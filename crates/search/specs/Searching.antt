@@ -69,6 +69,12 @@ abbrev pub listContinued : Outcome Papers → ℕ → ℕ → Record → List �
 listContinued (refused r) allowance room from list = list
 listContinued (accepted q) allowance room from list = listAfter list (answerOf q allowance room from list)
 
+-- The answer, the lent buffer and the lent list together.
+abbrev pub Answers : Outcome Papers → ℕ → List ℕ → Record → List ℕ → Continued → List ℕ → List ℕ → Type 0
+Answers read allowance dual from list r after left =
+    (r ≡ continueAnswer read allowance (length dual) from list)
+    × ((after ≡ dualContinued read allowance dual from list) × (left ≡ listContinued read allowance (length dual) from list))
+
 -- The record to go on from: the new one, and on refusal the same.
 abbrev pub recordContinued : Record → Continued → Record
 recordContinued from (Reported x) = x .new

@@ -7,7 +7,7 @@ ghost use Rattle.papers.specs.declared.PapersRead.{PapersRead};
 ghost use Rattle.papers.specs.Reading.{readPapers};
 ghost use Rattle.papers.specs.Answers.{papersAnswer};
 ghost use Rattle.steps.specs.Continuing.{fresh};
-ghost use Rattle.search.specs.Searching.{continueAnswer, dualContinued, listContinued};
+ghost use Rattle.search.specs.Searching.{continueAnswer, dualContinued, listContinued, Answers};
 use dual::DualWritten;
 use lanes::digits::scenario_count;
 use papers::Contents;
@@ -56,7 +56,7 @@ fn continue_accepted(
     allowance: u32,
 ) -> Continued
     requires { ⌜ papersAnswer (readPapers (now file) (now sheet)) ≡ PapersRead.Accepted contents literals ⌝ }
-    ensures { λ r. ⌜ (r ≡ continueAnswer (readPapers (now (file .entry)) (now (sheet .entry))) allowance (length (now (dual .entry))) from (now (list .entry))) × ((now (dual .exit) ≡ dualContinued (readPapers (now (file .entry)) (now (sheet .entry))) allowance (now (dual .entry)) from (now (list .entry))) × (now (list .exit) ≡ listContinued (readPapers (now (file .entry)) (now (sheet .entry))) allowance (length (now (dual .entry))) from (now (list .entry)))) ⌝ }
+    ensures { λ r. ⌜ Answers (readPapers (now (file .entry)) (now (sheet .entry))) allowance (now (dual .entry)) from (now (list .entry)) r (now (dual .exit)) (now (list .exit)) ⌝ }
 {
     let total = scenario_count(contents.abducibles);
     let spoilt = is_spoilt(list, from.position, from.found, total);

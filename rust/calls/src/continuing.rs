@@ -46,6 +46,22 @@ impl Continuing {
     }
 }
 
+/// Makes each of these calls by a finder's continuing, which is given the list,
+/// the record and the allowance and tells the scenarios tried, the state and the
+/// record, and checks what comes of it.
+pub fn each(
+    calls: &[Continuing],
+    mut go_on: impl FnMut(&mut [u32], (u32, u32), u32) -> (u32, State, (u32, u32)),
+) {
+    for call in calls {
+        let mut list = call.list.to_vec();
+        let given = go_on(&mut list, call.record, call.allowance);
+        let expected = (call.tried, call.state, call.record_after());
+        assert_eq!(given, expected, "{call:?}");
+        assert_eq!(list, call.list_after(), "{call:?}");
+    }
+}
+
 const fn call(
     list: &'static [u32],
     record: (u32, u32),
