@@ -5,16 +5,19 @@ ghost use Prim.Native.Nat.{_+_, _<_};
 ghost use lib.ListN.{length};
 ghost use Rattle.papers.specs.Field.{numbers};
 ghost use Rattle.papers.specs.Content.{abduciblesFault, literalsFault, isAmong, ruleFault, bodyFault};
-use crate::field::number_at;
+use crate::numbered::atom_at;
+use crate::numbered::literal_at;
+use crate::numbered::objective_at;
+use literals::Atom;
+use literals::AtomOf;
 
 pub fn literals_fault(content: &[u8], atoms: u16) -> u8
     ensures { λ r. ⌜ r ≡ literalsFault atoms (numbers (now (content .entry))) ⌝ }
 {
-    let bound = 4 * (atoms as usize);
     let count = content.len() / 2;
     let mut i: usize = 0;
     while i < count {
-        if bound <= number_at(content, 2 * i) {
+        if !literals::is_literal_listed(literal_at(content, 2 * i), atoms) {
             return 6;
         }
         i += 1;
@@ -25,31 +28,32 @@ pub fn literals_fault(content: &[u8], atoms: u16) -> u8
 pub fn abducibles_fault(content: &[u8], atoms: u16) -> u8
     ensures { λ r. ⌜ r ≡ abduciblesFault atoms 0 (numbers (now (content .entry))) ⌝ }
 {
-    let bound = atoms as usize;
     let count = content.len() / 2;
-    let mut least: usize = 0;
+    let mut least: u32 = 0;
     let mut i: usize = 0;
     while i < count {
-        let atom = number_at(content, 2 * i);
-        if bound <= atom {
+        let atom = atom_at(content, 2 * i);
+        let number = atom.0 as u32;
+        if atoms as u32 <= number {
             return 6;
         }
-        if atom < least {
+        if number < least {
             return 7;
         }
-        least = atom + 1;
+        least = number + 1;
         i += 1;
     }
     0
 }
 
-pub fn is_among(abducibles: &[u8], atom: usize) -> bool
-    ensures { λ r. ⌜ r ≡ isAmong (numbers (now (abducibles .entry))) atom ⌝ }
+pub fn is_among(abducibles: &[u8], atom: Atom) -> bool
+    ensures { λ r. ⌜ r ≡ isAmong (numbers (now (abducibles .entry))) (atom .0) ⌝ }
 {
     let count = abducibles.len() / 2;
     let mut i: usize = 0;
     while i < count {
-        if number_at(abducibles, 2 * i) == atom {
+        let listed = atom_at(abducibles, 2 * i);
+        if listed.0 == atom.0 {
             return true;
         }
         i += 1;
@@ -57,16 +61,16 @@ pub fn is_among(abducibles: &[u8], atom: usize) -> bool
     false
 }
 
-// A rule's head, then its body, which is the rest of the content.
+// A rule's head, then its body, which is the rest of the content. A head that is not below 2n is of no atom.
 fn rule_fault(content: &[u8], abducibles: &[u8], atoms: u16) -> u8
     requires { ⌜ 1 < length (now content) ⌝ }
     ensures { λ r. ⌜ r ≡ ruleFault atoms (numbers (now (abducibles .entry))) (numbers (now (content .entry))) ⌝ }
 {
-    let head = number_at(content, 0);
-    if 2 * (atoms as usize) <= head {
+    let head = literals::atom_of(objective_at(content, 0), atoms);
+    let AtomOf::Is(atom) = head else {
         return 6;
-    }
-    if is_among(abducibles, head / 2) {
+    };
+    if is_among(abducibles, atom) {
         return 8;
     }
     literals_fault(&content[2..], atoms)

@@ -2,7 +2,7 @@
 ghost use mathlib.Core.Path.{_≡_};
 ghost use Prim.Native.Nat.{_+_, _≤_, _<_};
 ghost use lib.ListN.{length, getD, drop};
-ghost use Rattle.papers.specs.Field.{number, fewest, most, lengthAllowed, fieldFault, readField};
+ghost use Rattle.papers.specs.Field.{numberIn, fewest, most, lengthAllowed, fieldFault, readField};
 ghost use Rattle.papers.specs.Answers.{fieldAnswer};
 use papers::FieldRead;
 use papers::Paper;
@@ -18,7 +18,7 @@ fn wide(b: u8) -> usize
 // The two-byte number at a place, high byte first.
 pub fn number_at(bytes: &[u8], place: usize) -> usize
     requires { ⌜ place + 1 < length (now bytes) ⌝ }
-    ensures { λ r. ⌜ (r ≡ number (getD (now (bytes .entry)) place 0) (getD (now (bytes .entry)) (place + 1) 0)) × (r < 65536) ⌝ }
+    ensures { λ r. ⌜ (r ≡ numberIn (now (bytes .entry)) place) × (r < 65536) ⌝ }
 {
     let high = wide(bytes[place]);
     let low = wide(bytes[place + 1]);

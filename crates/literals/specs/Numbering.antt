@@ -56,6 +56,10 @@ falsum n = 2 * n
 abbrev pub listed : ℕ → ℕ → Bool
 listed n o = ltb o (falsum n)
 
+-- so the literals that a file can name are those below 4n
+abbrev pub literalListed : ℕ → ℕ → Bool
+literalListed n l = ltb l (4 * n)
+
 -- "Judged literals: N = 2n+1"
 abbrev pub judged : ℕ → ℕ
 judged n = 2 * n + 1

@@ -1,18 +1,19 @@
 // Document 01, Numberings: a type for each of the four, so that a number of one cannot stand where another is due.
-// Atoms and rules are counted in 16 bits, so that every number made of them fits 32 and no function has a `requires`.
+// Atoms and rules are counted in 16 bits, so that every number made of them fits a word and no function has a `requires`. The other three are as
+// wide as an index, so that each is one where its own array is read.
 ghost use mathlib.Core.Path.{_≡_};
 ghost use Rattle.literals.specs.Answers.{atomOf, conjugateOf, defaultNegationOf, literalOf};
 ghost use Rattle.literals.specs.Numbering.{positive, negative, explicitlyNegated, otherOfPair};
 ghost use Rattle.literals.specs.Numbering.{objectiveNumber, defaultNegated, defaultConjugate};
-ghost use Rattle.literals.specs.Numbering.{falsum, listed, judged, foldOfRule, foldOfIntegrity};
+ghost use Rattle.literals.specs.Numbering.{falsum, listed, literalListed, judged, foldOfRule, foldOfIntegrity};
 
 pub struct Atom(pub u16);
 
-pub struct Objective(pub u32);
+pub struct Objective(pub usize);
 
-pub struct Literal(pub u32);
+pub struct Literal(pub usize);
 
-pub struct Fold(pub u32);
+pub struct Fold(pub usize);
 
 // What falsum has none of is answered by `Nothing`, and so is a number past it.
 pub enum AtomOf {
@@ -34,14 +35,14 @@ pub enum LiteralOf {
 pub fn positive(a: Atom) -> Objective
     ensures { λ r. ⌜ r .0 ≡ positive (a .0) ⌝ }
 {
-    Objective(2 * (a.0 as u32))
+    Objective(2 * (a.0 as usize))
 }
 
 // The atom's explicit negation.
 pub fn negative(a: Atom) -> Objective
     ensures { λ r. ⌜ r .0 ≡ negative (a .0) ⌝ }
 {
-    Objective(2 * (a.0 as u32) + 1)
+    Objective(2 * (a.0 as usize) + 1)
 }
 
 pub fn atom_of(o: Objective, atoms: u16) -> AtomOf
@@ -115,38 +116,45 @@ pub fn default_conjugate(l: Literal) -> Literal
 pub fn falsum(atoms: u16) -> Objective
     ensures { λ r. ⌜ r .0 ≡ falsum atoms ⌝ }
 {
-    Objective(2 * (atoms as u32))
+    Objective(2 * (atoms as usize))
 }
 
 // How many objective literals are judged: all that are listed, and falsum.
-pub fn judged(atoms: u16) -> u32
+pub fn judged(atoms: u16) -> usize
     ensures { λ r. ⌜ r ≡ judged atoms ⌝ }
 {
-    2 * (atoms as u32) + 1
+    2 * (atoms as usize) + 1
 }
 
 pub fn rule_fold(index: u16) -> Fold
     ensures { λ r. ⌜ r .0 ≡ foldOfRule index ⌝ }
 {
-    Fold(index as u32)
+    Fold(index as usize)
 }
 
 // The fold of an integrity rule of a file with so many rules.
 pub fn integrity_fold(rules: u16, index: u16) -> Fold
     ensures { λ r. ⌜ r .0 ≡ foldOfIntegrity rules index ⌝ }
 {
-    Fold(rules as u32 + index as u32)
+    Fold(rules as usize + index as usize)
 }
 
 // Below falsum: the objective literals that a file can name.
-fn is_listed(o: Objective, atoms: u16) -> bool
+pub fn is_listed(o: Objective, atoms: u16) -> bool
     ensures { λ r. ⌜ r ≡ listed atoms (o .0) ⌝ }
 {
-    o.0 < 2 * (atoms as u32)
+    o.0 < 2 * (atoms as usize)
+}
+
+// The literals that a file can name: those and their default negations.
+pub fn is_literal_listed(l: Literal, atoms: u16) -> bool
+    ensures { λ r. ⌜ r ≡ literalListed atoms (l .0) ⌝ }
+{
+    l.0 < 4 * (atoms as usize)
 }
 
 // The one of 2k and 2k+1 that `x` is not. The greatest number is odd, so the sum fits.
-fn other_of_pair(x: u32) -> u32
+fn other_of_pair(x: usize) -> usize
     ensures { λ r. ⌜ r ≡ otherOfPair x ⌝ }
 {
     if x % 2 == 0 { x + 1 } else { x - 1 }

@@ -8,6 +8,7 @@ use native.Mathlib.Omega.{arith}
 use borrow.Author.Tests.{lt-ltb, le-ltb, le-leb, lt-leb, eq-eqb, ne-eqb}
 use lib.ListN.{length, getD, take, drop, length-drop}
 use lib.Seq.{drop-cons, take-all}
+use Rattle.literals.specs.Numbering.{literalListed}
 use Rattle.papers.specs.Field.{number, numbers}
 use Rattle.papers.specs.Content.{abduciblesFault, literalsFault, isAmong, ruleFault}
 
@@ -58,13 +59,13 @@ module _ (content : List ℕ) (i : ℕ) where
       one : numbers (drop (2 * i) content) ≡ l ∷ numbers (drop (2 * (i + 1)) content)
       one = read-number here is
 
-      pub literals-stop : 4 * n ≤ l → literalsFault n (numbers (drop (2 * i) content)) ≡ 6
+      pub literals-stop : literalListed n l ≡ false → literalsFault n (numbers (drop (2 * i) content)) ≡ 6
       unfolding literalsFault
-      literals-stop h = rw (one, le-ltb l (4 * n) h)
+      literals-stop h = rw (one, h)
 
-      pub literals-next : l < 4 * n → literalsFault n (numbers (drop (2 * i) content)) ≡ literalsFault n (numbers (drop (2 * (i + 1)) content))
+      pub literals-next : literalListed n l ≡ true → literalsFault n (numbers (drop (2 * i) content)) ≡ literalsFault n (numbers (drop (2 * (i + 1)) content))
       unfolding literalsFault
-      literals-next h = rw (one, lt-ltb l (4 * n) h)
+      literals-next h = rw (one, h)
 
       pub abducibles-unlisted : (least : ℕ) → n ≤ l → abduciblesFault n least (numbers (drop (2 * i) content)) ≡ 6
       unfolding abduciblesFault

@@ -11,6 +11,10 @@ use Rattle.papers.specs.Outcome.{Outcome, accepted, check, passing}
 abbrev pub number : ℕ → ℕ → ℕ
 number high low = high * 256 + low
 
+-- The one at a place.
+abbrev pub numberIn : List ℕ → ℕ → ℕ
+numberIn bytes place = number (getD bytes place 0) (getD bytes (place + 1) 0)
+
 -- The two-byte numbers of a content, in order.
 unfoldable pub numbers : List ℕ → List ℕ
 numbers [] = []

@@ -13,25 +13,50 @@ use Rattle.fields.proofs.content.abducibles_fault.Statement.{statement}
 use Rattle.fields.proofs.content.abducibles_fault.Tie as tie
 
 abbrev Inv-loop : tie.InvT-loop
-Inv-loop content atoms bound count least₀ i₀ least i = (i ≤ count) × (abduciblesFault atoms 0 (numbers content) ≡ abduciblesFault atoms least (numbers (drop (2 * i) content)))
+Inv-loop content atoms count least₀ i₀ least i =
+    (i ≤ count) × (abduciblesFault atoms 0 (numbers content) ≡ abduciblesFault atoms least (numbers (drop (2 * i) content)))
 
 abbrev μ-loop : tie.MeasureT-loop
-μ-loop content atoms bound count least₀ i₀ least i = count - i
+μ-loop content atoms count least₀ i₀ least i = count - i
+
+-- ---- once the i-th atom is read
+
+abbrev turn : tie.After-atom-at Inv-loop μ-loop → tie.In-loop Inv-loop μ-loop
+turn c = c .before
+
+abbrev start : tie.At-loop Inv-loop μ-loop → tie.Start Inv-loop μ-loop
+start c = c .before .before
 
 loop-holds : tie.Need-loop-holds Inv-loop μ-loop
 loop-holds c = (omega arith, refl)
 
-mul-number-at : tie.Need-mul-number-at Inv-loop μ-loop
-mul-number-at c = search needs
+mul-atom-at : tie.Need-mul-atom-at Inv-loop μ-loop
+mul-atom-at c = search needs
 
-number-at-requires : tie.Need-number-at-requires Inv-loop μ-loop
-number-at-requires c κs = search needs
+atom-at-requires : tie.Need-atom-at-requires Inv-loop μ-loop
+atom-at-requires c κs = search needs
+
+cast-number : tie.Need-cast-number Inv-loop μ-loop
+cast-number c = search needs
+
 
 returns : tie.Need-returns Inv-loop μ-loop
-returns c = let a = c .before .before .before .before .before .args in sym (c .before .before .before .loop .inv .1 ∙ abducibles-unlisted (now (a .content)) _ (a .atoms) (c .before .before .loop-test .taken) (c .before .number-at .ensures .0) _ (c .if1 .taken))
+returns c =
+    let read = c .before .before in
+    let begun = turn read in
+    let a = start (begun .before) .args in
+    sym
+    (begun .before .loop .inv .1
+    ∙ abducibles-unlisted (now (a .content)) _ (a .atoms) (begun .loop-test .taken) (read .atom-at .ensures) _ (c .if1 .taken))
 
 returns-2 : tie.Need-returns-2 Inv-loop μ-loop
-returns-2 c = let a = c .before .before .before .before .before .before .args in sym (c .before .before .before .before .loop .inv .1 ∙ abducibles-disorder (now (a .content)) _ (a .atoms) (c .before .before .before .loop-test .taken) (c .before .before .number-at .ensures .0) _ (c .before .if1 .left) (c .if2 .taken))
+returns-2 c =
+    let read = c .before .before .before in
+    let begun = turn read in
+    let a = start (begun .before) .args in
+    sym
+    (begun .before .loop .inv .1
+    ∙ abducibles-disorder (now (a .content)) _ (a .atoms) (begun .loop-test .taken) (read .atom-at .ensures) _ (c .before .if1 .left) (c .if2 .taken))
 
 add-least : tie.Need-add-least Inv-loop μ-loop
 add-least c = search needs
@@ -43,10 +68,19 @@ loop-less : tie.Need-loop-less Inv-loop μ-loop
 loop-less c = search needs
 
 loop-again : tie.Need-loop-again Inv-loop μ-loop
-loop-again c = let a = c .before .before .before .before .before .before .args in (omega arith, c .before .before .before .before .loop .inv .1 ∙ abducibles-next (now (a .content)) _ (a .atoms) (c .before .before .before .loop-test .taken) (c .before .before .number-at .ensures .0) _ (c .before .if1 .left) (c .if2 .left))
+loop-again c =
+    let read = c .before .before .before in
+    let begun = turn read in
+    let a = start (begun .before) .args in (
+      omega arith,
+      begun .before .loop .inv .1
+      ∙ abducibles-next (now (a .content)) _ (a .atoms) (begun .loop-test .taken) (read .atom-at .ensures) _ (c .before .if1 .left) (c .if2 .left),
+    )
 
 returns-3 : tie.Need-returns-3 Inv-loop μ-loop
-returns-3 c = let a = c .before .before .before .args in sym (c .before .loop .inv .1 ∙ abducibles-done (now (a .content)) _ (a .atoms) _ (c .loop-test .left))
+returns-3 c =
+    let a = start (c .before) .args in
+    sym (c .before .loop .inv .1 ∙ abducibles-done (now (a .content)) _ (a .atoms) _ (c .loop-test .left))
 
 pub abducibles-fault-spec : {M : Type 1} → statement M
 abducibles-fault-spec =
@@ -55,8 +89,9 @@ abducibles-fault-spec =
     Inv-loop
     μ-loop
     loop-holds
-    mul-number-at
-    number-at-requires
+    mul-atom-at
+    atom-at-requires
+    cast-number
     returns
     returns-2
     add-least
