@@ -10,6 +10,9 @@ ghost use Rattle.papers.specs.Reading.{readFile, programIn};
 ghost use Rattle.papers.specs.Answers.{fileAnswer};
 ghost use Rattle.papers.specs.Places.{Walked, BodyOf};
 use fields::field::number_at;
+use fields::numbered::objective_at;
+use literals::Fold;
+use literals::Objective;
 use papers::Contents;
 
 // The place after the field at a place.
@@ -20,7 +23,7 @@ fn field_end(file: &[u8], place: usize) -> usize
     place + 3 + number_at(file, place + 1)
 }
 
-// Where the field of each fold stands. There are at most 1,280.
+// Where the field of each fold stands, and 0 past the last: there are at most 1,280.
 pub fn fold_places(file: &[u8], contents: Contents) -> [usize; 1280]
     requires { ⌜ fileAnswer (readFile (now file)) ≡ FileRead.Accepted contents ⌝ }
     ensures { λ r. ⌜ Walked (now (file .entry)) contents r ⌝ }
@@ -40,15 +43,16 @@ pub fn fold_places(file: &[u8], contents: Contents) -> [usize; 1280]
 }
 
 // The head of the rule with this fold number; falsum's where it is an integrity rule.
-pub fn head_of(file: &[u8], contents: Contents, places: &[usize; 1280], fold: usize) -> usize
-    requires { ⌜ Walked (now file) contents (now places) × (fold < length (allRules (programIn (now file)))) ⌝ }
-    ensures { λ r. ⌜ (r ≡ (ruleAt (programIn (now (file .entry))) fold) .head) × (r < 513) ⌝ }
+pub fn head_of(file: &[u8], contents: Contents, places: &[usize; 1280], fold: Fold) -> Objective
+    requires { ⌜ Walked (now file) contents (now places) × (fold .0 < length (allRules (programIn (now file)))) ⌝ }
+    ensures { λ r. ⌜ (r .0 ≡ (ruleAt (programIn (now (file .entry))) (fold .0)) .head) × (r .0 < 513) ⌝ }
 {
     let rules = contents.rules;
-    if fold < rules.count {
-        number_at(file, places[fold] + 3)
+    let at = fold.0;
+    if at < rules.count {
+        objective_at(file, places[at] + 3)
     } else {
-        2 * (contents.atoms as usize)
+        literals::falsum(contents.atoms)
     }
 }
 
@@ -57,15 +61,16 @@ pub fn body_of<'a, 'b>(
     file: &'a [u8],
     contents: Contents,
     places: &'b [usize; 1280],
-    fold: usize,
+    fold: Fold,
 ) -> &'a [u8]
-    requires { ⌜ Walked (now file) contents (now places) × (fold < length (allRules (programIn (now file)))) ⌝ }
-    ensures { λ r. ⌜ BodyOf (ruleAt (programIn (now (file .entry))) fold) (now r) ⌝ }
+    requires { ⌜ Walked (now file) contents (now places) × (fold .0 < length (allRules (programIn (now file)))) ⌝ }
+    ensures { λ r. ⌜ BodyOf (ruleAt (programIn (now (file .entry))) (fold .0)) (now r) ⌝ }
 {
     let rules = contents.rules;
-    let place = places[fold];
+    let at = fold.0;
+    let place = places[at];
     let end = field_end(file, place);
-    if fold < rules.count {
+    if at < rules.count {
         let start = place + 5;
         &file[start..end]
     } else {

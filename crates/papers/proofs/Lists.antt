@@ -5,7 +5,7 @@ use mathlib.Core.List.{List, [], _∷_, _++_, map}
 use Prim.Native.Nat.{ℕ, zero, suc, _+_, _-_, _<_}
 use native.Mathlib.Decide.{ℕ-discrete}
 use native.Mathlib.Omega.{arith}
-use lib.ListN.{length, getD, take, drop, set}
+use lib.ListN.{length, getD, take, drop, set, replicate}
 use lib.Seq.{take-nil, drop-drop, drop-at, getD-drop, getD-set-same, getD-set-other}
 use Rattle.papers.specs.Valid.{All, none, each}
 
@@ -51,6 +51,12 @@ set-more l i v f within e below j h = elim (ℕ-discrete j i) [
   | yes q ↦ rw q (getD-set-same l i v 0 within ∙ e)
   | no q ↦ getD-set-other l i j v 0 q ∙ below j (omega arith)
 ]
+
+-- In a row of zeros there are none but zeros, within and past its end.
+pub getD-zeros : (n i : ℕ) → _≡_ {A = ℕ} (getD (replicate n 0) i 0) 0
+getD-zeros zero i = refl
+getD-zeros (suc n) zero = refl
+getD-zeros (suc n) (suc i) = getD-zeros n i
 
 -- What stands at a place, and after it.
 module _ {A : Type 0} (all : List A) (j : ℕ) {first : A} {more : List A} (e : drop j all ≡ first ∷ more) where

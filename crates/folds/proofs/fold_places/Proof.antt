@@ -1,12 +1,13 @@
 -- `folds::fold_places` meets its contract. The loop's invariant: the places of the folds passed are written, and the next is at hand.
 -- Assumes nothing.
 use lib.ListN.{length, getD, length-set, length-replicate}
-use Rattle.papers.proofs.Lists.{set-more}
+use lib.Seq.{getD-set-other}
+use Rattle.papers.proofs.Lists.{set-more, getD-zeros}
 use mathlib.Core.Path.{_≡_, _∙_}
 use Prim.Native.Nat.{ℕ, _+_, _-_, _≤_, _<_}
 use native.Mathlib.Omega.{arith}
 use denote.Ref.{now}
-use Rattle.papers.specs.Program.{Program}
+use Rattle.papers.specs.Program.{Program, allRules}
 use Rattle.papers.specs.Reading.{programIn}
 use Rattle.papers.specs.Places.{foldPlace}
 use Rattle.papers.proofs.RuleLaws.{rules-count}
@@ -15,7 +16,11 @@ use Rattle.folds.proofs.fold_places.Statement.{statement}
 use Rattle.folds.proofs.fold_places.Tie as tie
 
 abbrev Inv-loop : tie.InvT-loop
-Inv-loop file count places₀ place₀ i₀ places place i = (i ≤ count) × ((place ≡ foldPlace (programIn file) i) × ((length places ≡ 1280) × ((j : ℕ) → j < i → getD places j 0 ≡ foldPlace (programIn file) j)))
+Inv-loop file count places₀ place₀ i₀ places place i =
+    (i ≤ count)
+    × ((place ≡ foldPlace (programIn file) i)
+    × ((length places ≡ 1280)
+    × (((j : ℕ) → j < i → getD places j 0 ≡ foldPlace (programIn file) j) × ((j : ℕ) → i ≤ j → getD places j 0 ≡ 0))))
 
 abbrev μ-loop : tie.MeasureT-loop
 μ-loop file count places₀ place₀ i₀ places place i = count - i
@@ -44,7 +49,13 @@ add-count c = omega (arith, few (c .before .before .before .before .before))
 loop-holds : tie.Need-loop-holds Inv-loop μ-loop
 loop-holds c =
     let s = c .before .before .before .before .before in
-    (omega arith, (first-place (now (s .args .file)) (s .args .contents) (s .pre), (length-replicate {A = ℕ} 1280 0, λ j h. absurd (omega arith))))
+    (
+      omega arith,
+      (
+        first-place (now (s .args .file)) (s .args .contents) (s .pre),
+        (length-replicate {A = ℕ} 1280 0, (λ j h. absurd (omega arith), λ j h. getD-zeros 1280 j)),
+      ),
+    )
 
 mul-places : tie.Need-mul-places Inv-loop μ-loop
 mul-places c = omega (arith, few (start (c .before)))
@@ -71,18 +82,33 @@ loop-again c =
     let s = start head in (
       omega arith,
       (
-        c .field-end .ensures ∙ next-place (now (s .args .file)) (s .args .contents) (s .pre) (λ k. known head .shared-slice-known .given k .fits) (at .i) (c .before .loop-test .taken) (at .inv .1 .0),
-        (simp length-set (at .inv .1 .1 .0), set-more (at .places) (at .i) (at .place) (foldPlace (program s)) (omega (arith, few s)) (at .inv .1 .0) (at .inv .1 .1 .1)),
+        c .field-end .ensures
+        ∙ next-place (now (s .args .file)) (s .args .contents) (s .pre) (λ k. known head .shared-slice-known .given k .fits) (at .i) (c .before .loop-test .taken) (at .inv .1 .0),
+        (
+          simp length-set (at .inv .1 .1 .0),
+          (
+            set-more (at .places) (at .i) (at .place) (foldPlace (program s)) (omega (arith, few s)) (at .inv .1 .0) (at .inv .1 .1 .1 .0),
+            λ j h. getD-set-other (at .places) (at .i) j (at .place) 0 (λ e. omega arith) ∙ at .inv .1 .1 .1 .1 j (omega arith),
+          ),
+        ),
       ),
     )
 
+-- ---- where every place is written
+
+module _ (c : tie.After-loop Inv-loop μ-loop) where
+  abbrev begun : tie.Start Inv-loop μ-loop
+  begun = start (c .before)
+
+  all : c .before .loop .i ≡ length (allRules (program begun))
+  all = omega (arith, rules-count (program begun), folds-counted (now (begun .args .file)) (begun .args .contents) (begun .pre))
+
 returns : tie.Need-returns Inv-loop μ-loop
-returns c =
-    let s = start (c .before) in
-    record {
-      answer = s .pre;
-      at = λ fold h. c .before .loop .inv .1 .1 .1 fold (omega (arith, rules-count (program s), folds-counted (now (s .args .file)) (s .args .contents) (s .pre)));
-    }
+returns c = record {
+  answer = begun c .pre;
+  at = λ fold h. c .before .loop .inv .1 .1 .1 .0 fold (omega (arith, all c));
+  beyond = λ i h. c .before .loop .inv .1 .1 .1 .1 i (omega (arith, all c));
+}
 
 pub fold-places-spec : {M : Type 1} → statement M
 fold-places-spec =

@@ -1,45 +1,74 @@
 -- `folds::head_of` meets its contract.
 -- Assumes nothing.
+use Prim.Native.Nat.{ℕ, _+_, _<_}
 use native.Mathlib.Omega.{arith}
 use denote.Ref.{now}
+use lib.ListN.{length, getD}
 use Rattle.papers.proofs.FoldAnswers.{fold-few, headed, head-there, head-falsum}
 use borrow.Author.Needs.{needs}
 use Rattle.folds.proofs.head_of.Statement.{statement}
 use Rattle.folds.proofs.head_of.Tie as tie
 
-mul-number-at : tie.Need-mul-number-at
-mul-number-at c = omega (arith, fold-few (now (c .before .before .before .before .args .file)) (c .before .before .before .before .args .contents) (now (c .before .before .before .before .args .places)) (c .before .before .before .before .pre .0) (λ k. c .before .before .before .shared-slice-known .given k .fits) (c .before .before .before .before .args .fold) (c .before .before .before .before .pre .1))
+-- ---- where the fold's number is taken
 
-element-copy-out-number-at : tie.Need-element-copy-out-number-at
-element-copy-out-number-at c = omega (arith, fold-few (now (c .before .before .before .before .args .file)) (c .before .before .before .before .args .contents) (now (c .before .before .before .before .args .places)) (c .before .before .before .before .pre .0) (λ k. c .before .before .before .shared-slice-known .given k .fits) (c .before .before .before .before .args .fold) (c .before .before .before .before .pre .1))
+module _ (c : tie.After-struct-known) where
+  abbrev known : tie.After-shared-slice-known
+  known = c .before .before
 
-add-number-at : tie.Need-add-number-at
-add-number-at c = omega (arith, headed (now (c .before .before .before .before .before .args .file)) (c .before .before .before .before .before .args .contents) (now (c .before .before .before .before .before .args .places)) (c .before .before .before .before .before .pre .0) (λ k. c .before .before .before .before .shared-slice-known .given k .fits) (c .before .before .before .before .before .args .fold) (c .before .before .before .before .before .pre .1) (c .before .if1 .taken))
+  abbrev start : tie.Start
+  start = known .before
 
-number-at-requires : tie.Need-number-at-requires
-number-at-requires c κs = omega (arith, headed (now (c .before .before .before .before .before .args .file)) (c .before .before .before .before .before .args .contents) (now (c .before .before .before .before .before .args .places)) (c .before .before .before .before .before .pre .0) (λ k. c .before .before .before .before .shared-slice-known .given k .fits) (c .before .before .before .before .before .args .fold) (c .before .before .before .before .before .pre .1) (c .before .if1 .taken))
+  abbrev fold : ℕ
+  fold = start .args .fold .0
 
-cast-result : tie.Need-cast-result
-cast-result c = search needs
+  few : fold < 1280
+  few =
+      fold-few (now (start .args .file)) (start .args .contents) (now (start .args .places)) (start .pre .0)
+      (λ k. known .shared-slice-known .given k .fits) fold (start .pre .1)
 
-mul-result : tie.Need-mul-result
-mul-result c = search needs
+  there : fold < start .args .contents .rules .count → getD (now (start .args .places)) fold 0 + 4 < length (now (start .args .file))
+  there =
+      headed (now (start .args .file)) (start .args .contents) (now (start .args .places)) (start .pre .0)
+      (λ k. known .shared-slice-known .given k .fits) fold (start .pre .1)
+
+mul-objective-at : tie.Need-mul-objective-at
+mul-objective-at c = omega (arith, few (c .before))
+
+element-copy-out-objective-at : tie.Need-element-copy-out-objective-at
+element-copy-out-objective-at c = few (c .before)
+
+add-objective-at : tie.Need-add-objective-at
+add-objective-at c = omega (arith, there (c .before .before) (c .before .if1 .taken))
+
+objective-at-requires : tie.Need-objective-at-requires
+objective-at-requires c κs = omega (arith, there (c .before .before) (c .before .if1 .taken))
+
+falsum-requires : tie.Need-falsum-requires
+falsum-requires c κs = search needs
 
 returns : tie.Need-returns
-returns c = head-there (now (c .before .before .before .before .before .before .args .file)) (c .before .before .before .before .before .before .args .contents) (now (c .before .before .before .before .before .before .args .places)) (c .before .before .before .before .before .before .pre .0) (λ k. c .before .before .before .before .before .shared-slice-known .given k .fits) (c .before .before .before .before .before .before .args .fold) (c .before .before .before .before .before .before .pre .1) (c .before .before .if1 .taken) (c .number-at .ensures .0)
+returns c =
+    let at = c .before .before .before in
+    let s = start at in
+    head-there (now (s .args .file)) (s .args .contents) (now (s .args .places)) (s .pre .0) (λ k. known at .shared-slice-known .given k .fits) (fold at)
+    (s .pre .1) (c .before .before .if1 .taken) (c .objective-at .ensures .0)
 
 returns-2 : tie.Need-returns-2
-returns-2 c = head-falsum (now (c .before .before .before .before .before .args .file)) (c .before .before .before .before .before .args .contents) (now (c .before .before .before .before .before .args .places)) (c .before .before .before .before .before .pre .0) (λ k. c .before .before .before .before .shared-slice-known .given k .fits) (c .before .before .before .before .before .args .fold) (c .before .before .before .before .before .pre .1) (c .before .if1 .left)
+returns-2 c =
+    let at = c .before .before in
+    let s = start at in
+    rw (c .falsum .ensures)
+    (head-falsum (now (s .args .file)) (s .args .contents) (now (s .args .places)) (s .pre .0) (λ k. known at .shared-slice-known .given k .fits) (fold at)
+    (s .pre .1) (c .before .if1 .left))
 
 pub head-of-spec : {M : Type 1} → statement M
 head-of-spec =
     tie.close
     (tie.spec
-    mul-number-at
-    element-copy-out-number-at
-    add-number-at
-    number-at-requires
-    cast-result
-    mul-result
+    mul-objective-at
+    element-copy-out-objective-at
+    add-objective-at
+    objective-at-requires
+    falsum-requires
     returns
     returns-2)
