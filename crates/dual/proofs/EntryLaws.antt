@@ -9,7 +9,8 @@ use lib.Dec.{eqb}
 use lib.ListN.{length, getD, drop}
 use Rattle.papers.specs.Program.{Rule, Program, allRules, noRule}
 use Rattle.papers.specs.Content.{isAmong}
-use Rattle.papers.specs.Valid.{All, each}
+use borrow.Author.Tests.{ne-eqb}
+use Rattle.papers.specs.Valid.{All, each, Valid}
 use Rattle.papers.proofs.Lists.{at-place, past-place}
 use Rattle.dual.specs.Table.{foldsFrom, foldsOf, isEmpty, isFact, hasEntry}
 use Rattle.dual.specs.Length.{ruleLength, rulesLength, entriesLength}
@@ -117,6 +118,15 @@ module _ (p : Program) (next : List ℕ) (o fold total : ℕ) (w : Walking p nex
 -- ---- an entry, and all of them
 
 -- An entry is by its rules, where it is no abducible's.
+-- Numbers from 2n on are of no abducible: abducibles are below n.
+among-below : (n : ℕ) (l : List ℕ) → All (_< n) l → (x : ℕ) → n ≤ x → isAmong l x ≡ false
+unfolding isAmong
+among-below n [] below x h = refl
+among-below n (a ∷ more) (each p rest) x h = rw (ne-eqb a x (λ e. omega arith)) (among-below n more rest x h)
+
+pub unlisted-among : (p : Program) → Valid p → (o : ℕ) → 2 * p .atoms ≤ o → isAmong (p .abducibles) (o / 2) ≡ false
+unlisted-among p v o h = among-below (p .atoms) (p .abducibles) (v .abduciblesListed) (o / 2) (omega arith)
+
 pub entry-among : (p : Program) (o : ℕ) → isAmong (p .abducibles) (o / 2) ≡ true → 0 ≡ cond (hasEntry p o) (5 + rulesLength (allRules p) o) 0
 unfolding hasEntry
 entry-among p o e = rw e

@@ -3,7 +3,11 @@ ghost use mathlib.Core.Path.{_≡_};
 ghost use mathlib.Core.Bool.{cond};
 ghost use Prim.Native.Nat.{_+_, _*_, _<_, _≤_};
 ghost use Rattle.papers.specs.Program.{allRules};
-ghost use Rattle.papers.specs.Reading.{programIn};
+ghost use Rattle.literals.specs.Numbering.{atomNumber};
+ghost use Rattle.papers.specs.declared.FileRead.{FileRead};
+ghost use Rattle.papers.specs.Content.{isAmong};
+ghost use Rattle.papers.specs.Reading.{readFile, programIn};
+ghost use Rattle.papers.specs.Answers.{fileAnswer};
 ghost use Rattle.papers.specs.Places.{Walked};
 ghost use lib.ListN.{length};
 ghost use Rattle.dual.specs.Table.{hasEntry, isFact, entry, entryIfAny, dual};
@@ -11,8 +15,12 @@ ghost use Rattle.dual.specs.Encoding.{encodeFields};
 ghost use Rattle.dual.specs.Answers.{filled};
 ghost use Rattle.dual.specs.Length.{rulesLength, dualLength};
 ghost use Rattle.dual.specs.Chains.{ChainsOf};
+use crate::chains::next_fold;
 use crate::writing::write_fold;
 use crate::writing::write_literal;
+use literals::AtomOf;
+use literals::Fold;
+use literals::Objective;
 use papers::Contents;
 
 // The bytes of an objective literal's entry, by its rules; 0 where it has none, since one of them is a fact.
@@ -22,22 +30,37 @@ fn rules_length(
     places: &[usize; 1280],
     first: &[usize; 513],
     next: &[usize; 1280],
-    o: usize,
+    o: Objective,
 ) -> usize
-    requires { ⌜ Walked (now file) contents (now places) × (ChainsOf (programIn (now file)) (now first) (now next) × (o < 513)) ⌝ }
-    ensures { λ r. ⌜ (r ≡ cond (isFact (allRules (programIn (now (file .entry)))) o) 0 (5 + rulesLength (allRules (programIn (now (file .entry)))) o)) × (r < 65536) ⌝ }
+    requires { ⌜ Walked (now file) contents (now places) × (ChainsOf (programIn (now file)) (now first) (now next) × (o .0 < 513)) ⌝ }
+    ensures { λ r. ⌜ (r ≡ cond (isFact (allRules (programIn (now (file .entry)))) (o .0)) 0 (5 + rulesLength (allRules (programIn (now (file .entry)))) (o .0))) × (r < 65536) ⌝ }
 {
-    let mut fold = first[o];
+    let at = o.0;
+    let start = first[at];
+    let mut fold = Fold(start);
     let mut total: usize = 5;
-    while fold < 1280 {
+    while fold.0 < 1280 {
         let body = folds::body_of(file, contents, places, fold);
         if body.len() == 0 {
             return 0;
         }
         total = total + 7 + body.len();
-        fold = next[fold];
+        fold = next_fold(next, fold);
     }
     total
+}
+
+// Whether it is an abducible atom or its negation. Falsum is of no atom.
+fn is_abducible(file: &[u8], contents: Contents, o: Objective) -> bool
+    requires { ⌜ fileAnswer (readFile (now file)) ≡ FileRead.Accepted contents ⌝ }
+    ensures { λ r. ⌜ r ≡ isAmong ((programIn (now (file .entry))) .abducibles) (atomNumber (o .0)) ⌝ }
+{
+    let owner = literals::atom_of(o, contents.atoms);
+    let AtomOf::Is(atom) = owner else {
+        return false;
+    };
+    let end = 12 + 2 * contents.abducibles;
+    fields::content::is_among(&file[12..end], atom)
 }
 
 // The bytes of an objective literal's entry, 0 where it has none.
@@ -47,13 +70,12 @@ pub(crate) fn entry_length(
     places: &[usize; 1280],
     first: &[usize; 513],
     next: &[usize; 1280],
-    o: usize,
+    o: Objective,
 ) -> usize
-    requires { ⌜ Walked (now file) contents (now places) × (ChainsOf (programIn (now file)) (now first) (now next) × (o < 513)) ⌝ }
-    ensures { λ r. ⌜ (r ≡ cond (hasEntry (programIn (now (file .entry))) o) (5 + rulesLength (allRules (programIn (now (file .entry)))) o) 0) × (r < 65536) ⌝ }
+    requires { ⌜ Walked (now file) contents (now places) × (ChainsOf (programIn (now file)) (now first) (now next) × (o .0 < 513)) ⌝ }
+    ensures { λ r. ⌜ (r ≡ cond (hasEntry (programIn (now (file .entry))) (o .0)) (5 + rulesLength (allRules (programIn (now (file .entry)))) (o .0)) 0) × (r < 65536) ⌝ }
 {
-    let end = 12 + 2 * contents.abducibles;
-    if fields::content::is_among(&file[12..end], o / 2) {
+    if is_abducible(file, contents, o) {
         return 0;
     }
     rules_length(file, contents, places, first, next, o)
@@ -70,11 +92,11 @@ pub(crate) fn dual_length(
     requires { ⌜ Walked (now file) contents (now places) × ChainsOf (programIn (now file)) (now first) (now next) ⌝ }
     ensures { λ r. ⌜ r ≡ dualLength (programIn (now (file .entry))) ⌝ }
 {
-    let judged = 2 * (contents.atoms as usize) + 1;
+    let judged = literals::judged(contents.atoms);
     let mut total: usize = 0;
     let mut o: usize = 0;
     while o < judged {
-        total += entry_length(file, contents, places, first, next, o);
+        total += entry_length(file, contents, places, first, next, Objective(o));
         o += 1;
     }
     total + 3
@@ -89,19 +111,21 @@ fn write_entry(
     places: &[usize; 1280],
     first: &[usize; 513],
     next: &[usize; 1280],
-    o: usize,
+    o: Objective,
 ) -> usize
-    requires { ⌜ Walked (now file) contents (now places) × (ChainsOf (programIn (now file)) (now first) (now next) × ((o < 513) × (length (encodeFields (entry (programIn (now file)) o)) ≤ length (now buffer)))) ⌝ }
-    ensures { λ r. ⌜ (r ≡ length (encodeFields (entry (programIn (now (file .entry))) o))) × (now (buffer .exit) ≡ filled (encodeFields (entry (programIn (now (file .entry))) o)) (now (buffer .entry))) ⌝ }
+    requires { ⌜ Walked (now file) contents (now places) × (ChainsOf (programIn (now file)) (now first) (now next) × ((o .0 < 513) × (length (encodeFields (entry (programIn (now file)) (o .0))) ≤ length (now buffer)))) ⌝ }
+    ensures { λ r. ⌜ (r ≡ length (encodeFields (entry (programIn (now (file .entry))) (o .0)))) × (now (buffer .exit) ≡ filled (encodeFields (entry (programIn (now (file .entry))) (o .0))) (now (buffer .entry))) ⌝ }
 {
-    let start = first[o];
+    let at = o.0;
+    let number = first[at];
+    let start = Fold(number);
     let mut end = write_literal(buffer, next, start, o);
     let mut fold = start;
-    while fold < 1280 {
+    while fold.0 < 1280 {
         let body = folds::body_of(file, contents, places, fold);
         let size = write_fold(&mut buffer[end..], fold, body);
         end += size;
-        fold = next[fold];
+        fold = next_fold(next, fold);
     }
     end
 }
@@ -114,10 +138,10 @@ fn write_any_entry(
     places: &[usize; 1280],
     first: &[usize; 513],
     next: &[usize; 1280],
-    o: usize,
+    o: Objective,
 ) -> usize
-    requires { ⌜ Walked (now file) contents (now places) × (ChainsOf (programIn (now file)) (now first) (now next) × ((o < 513) × (length (encodeFields (entryIfAny (programIn (now file)) o)) ≤ length (now buffer)))) ⌝ }
-    ensures { λ r. ⌜ (r ≡ length (encodeFields (entryIfAny (programIn (now (file .entry))) o))) × (now (buffer .exit) ≡ filled (encodeFields (entryIfAny (programIn (now (file .entry))) o)) (now (buffer .entry))) ⌝ }
+    requires { ⌜ Walked (now file) contents (now places) × (ChainsOf (programIn (now file)) (now first) (now next) × ((o .0 < 513) × (length (encodeFields (entryIfAny (programIn (now file)) (o .0))) ≤ length (now buffer)))) ⌝ }
+    ensures { λ r. ⌜ (r ≡ length (encodeFields (entryIfAny (programIn (now (file .entry))) (o .0)))) × (now (buffer .exit) ≡ filled (encodeFields (entryIfAny (programIn (now (file .entry))) (o .0))) (now (buffer .entry))) ⌝ }
 {
     if entry_length(file, contents, places, first, next, o) == 0 {
         return 0;
@@ -137,11 +161,19 @@ pub(crate) fn write_entries(
     requires { ⌜ Walked (now file) contents (now places) × (ChainsOf (programIn (now file)) (now first) (now next) × (dualLength (programIn (now file)) ≤ length (now buffer))) ⌝ }
     ensures { λ r. ⌜ (r ≡ length (encodeFields (dual (programIn (now (file .entry)))))) × (now (buffer .exit) ≡ filled (encodeFields (dual (programIn (now (file .entry))))) (now (buffer .entry))) ⌝ }
 {
-    let judged = 2 * (contents.atoms as usize) + 1;
+    let judged = literals::judged(contents.atoms);
     let mut end: usize = 0;
     let mut o: usize = 0;
     while o < judged {
-        let size = write_any_entry(&mut buffer[end..], file, contents, places, first, next, o);
+        let size = write_any_entry(
+            &mut buffer[end..],
+            file,
+            contents,
+            places,
+            first,
+            next,
+            Objective(o),
+        );
         end += size;
         o += 1;
     }

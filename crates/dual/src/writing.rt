@@ -8,8 +8,10 @@ ghost use Rattle.papers.specs.Field.{numbers};
 ghost use Rattle.papers.specs.Encoding.{encodeNumbers, encodeField};
 ghost use Rattle.dual.specs.Answers.{filled};
 ghost use Rattle.dual.specs.Chains.{Chain, foldsAt};
-use fields::field::number_at;
-use literals::Literal;
+use crate::chains::next_fold;
+use fields::numbered::literal_at;
+use literals::Fold;
+use literals::Objective;
 
 // A two-byte number at a place, high byte first.
 fn put_number(buffer: &mut [u8], at: usize, value: usize)
@@ -31,33 +33,32 @@ fn put_heading(buffer: &mut [u8], tag: u8, size: usize, number: usize)
 }
 
 // 09: the fold number, and the default conjugate of each body literal.
-pub(crate) fn write_fold(buffer: &mut [u8], fold: usize, body: &[u8]) -> usize
-    requires { ⌜ (5 + length (now body) ≤ length (now buffer)) × ((fold < 65536) × ((length (now body) ≤ 32) × (length (now body) ≡ 2 * length (numbers (now body))))) ⌝ }
-    ensures { λ r. ⌜ (r ≡ 5 + length (now (body .entry))) × (now (buffer .exit) ≡ filled (encodeField 0x09 (encodeNumbers (fold ∷ map defaultConjugate (numbers (now (body .entry)))))) (now (buffer .entry))) ⌝ }
+pub(crate) fn write_fold(buffer: &mut [u8], fold: Fold, body: &[u8]) -> usize
+    requires { ⌜ (5 + length (now body) ≤ length (now buffer)) × ((fold .0 < 65536) × ((length (now body) ≤ 32) × (length (now body) ≡ 2 * length (numbers (now body))))) ⌝ }
+    ensures { λ r. ⌜ (r ≡ 5 + length (now (body .entry))) × (now (buffer .exit) ≡ filled (encodeField 0x09 (encodeNumbers (fold .0 ∷ map defaultConjugate (numbers (now (body .entry)))))) (now (buffer .entry))) ⌝ }
 {
     let size = body.len();
-    put_heading(buffer, 0x09, 2 + size, fold);
+    put_heading(buffer, 0x09, 2 + size, fold.0);
     let count = size / 2;
     let mut i: usize = 0;
     while i < count {
-        let l = number_at(body, 2 * i);
-        let conjugate = literals::default_conjugate(Literal(l as u32));
-        put_number(buffer, 5 + 2 * i, conjugate.0 as usize);
+        let conjugate = literals::default_conjugate(literal_at(body, 2 * i));
+        put_number(buffer, 5 + 2 * i, conjugate.0);
         i += 1;
     }
     5 + size
 }
 
 // How many folds a chain has.
-fn fold_count(next: &[usize; 1280], start: usize) -> usize
-    requires { ⌜ Chain (now next) start (foldsAt (now next) start) ⌝ }
-    ensures { λ r. ⌜ (r ≡ length (foldsAt (now (next .entry)) start)) × (r ≤ 1280) ⌝ }
+fn fold_count(next: &[usize; 1280], start: Fold) -> usize
+    requires { ⌜ Chain (now next) (start .0) (foldsAt (now next) (start .0)) ⌝ }
+    ensures { λ r. ⌜ (r ≡ length (foldsAt (now (next .entry)) (start .0))) × (r ≤ 1280) ⌝ }
 {
     let mut count: usize = 0;
     let mut fold = start;
-    while fold < 1280 {
+    while fold.0 < 1280 {
         count += 1;
-        fold = next[fold];
+        fold = next_fold(next, fold);
     }
     count
 }
@@ -66,20 +67,20 @@ fn fold_count(next: &[usize; 1280], start: usize) -> usize
 pub(crate) fn write_literal(
     buffer: &mut [u8],
     next: &[usize; 1280],
-    start: usize,
-    o: usize,
+    start: Fold,
+    o: Objective,
 ) -> usize
-    requires { ⌜ Chain (now next) start (foldsAt (now next) start) × ((5 + 2 * length (foldsAt (now next) start) ≤ length (now buffer)) × (o < 65536)) ⌝ }
-    ensures { λ r. ⌜ (r ≡ 5 + 2 * length (foldsAt (now (next .entry)) start)) × (now (buffer .exit) ≡ filled (encodeField 0x08 (encodeNumbers (o ∷ foldsAt (now (next .entry)) start))) (now (buffer .entry))) ⌝ }
+    requires { ⌜ Chain (now next) (start .0) (foldsAt (now next) (start .0)) × ((5 + 2 * length (foldsAt (now next) (start .0)) ≤ length (now buffer)) × (o .0 < 65536)) ⌝ }
+    ensures { λ r. ⌜ (r ≡ 5 + 2 * length (foldsAt (now (next .entry)) (start .0))) × (now (buffer .exit) ≡ filled (encodeField 0x08 (encodeNumbers (o .0 ∷ foldsAt (now (next .entry)) (start .0)))) (now (buffer .entry))) ⌝ }
 {
     let count = fold_count(next, start);
-    put_heading(buffer, 0x08, 2 + 2 * count, o);
+    put_heading(buffer, 0x08, 2 + 2 * count, o.0);
     let mut at: usize = 5;
     let mut fold = start;
-    while fold < 1280 {
-        put_number(buffer, at, fold);
+    while fold.0 < 1280 {
+        put_number(buffer, at, fold.0);
         at += 2;
-        fold = next[fold];
+        fold = next_fold(next, fold);
     }
     at
 }

@@ -48,8 +48,7 @@ add-count c = omega (arith, few (c .before .before .before .before .before))
 
 loop-holds : tie.Need-loop-holds Inv-loop μ-loop
 loop-holds c =
-    let s = c .before .before .before .before .before in
-    (
+    let s = c .before .before .before .before .before in (
       omega arith,
       (
         first-place (now (s .args .file)) (s .args .contents) (s .pre),
@@ -83,7 +82,7 @@ loop-again c =
       omega arith,
       (
         c .field-end .ensures
-        ∙ next-place (now (s .args .file)) (s .args .contents) (s .pre) (λ k. known head .shared-slice-known .given k .fits) (at .i) (c .before .loop-test .taken) (at .inv .1 .0),
+            ∙ next-place (now (s .args .file)) (s .args .contents) (s .pre) (λ k. known head .shared-slice-known .given k .fits) (at .i) (c .before .loop-test .taken) (at .inv .1 .0),
         (
           simp length-set (at .inv .1 .1 .0),
           (

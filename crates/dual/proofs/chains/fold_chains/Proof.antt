@@ -15,7 +15,8 @@ use Rattle.dual.proofs.chains.fold_chains.Statement.{statement}
 use Rattle.dual.proofs.chains.fold_chains.Tie as tie
 
 abbrev Inv-loop : tie.InvT-loop
-Inv-loop file contents places first₀ next₀ fold₀ first next fold = (fold ≤ length (allRules (programIn file))) × Linked (allRules (programIn file)) fold first next
+Inv-loop file contents places first₀ next₀ fold₀ first next fold =
+    (fold ≤ length (allRules (programIn file))) × Linked (allRules (programIn file)) fold first next
 
 abbrev μ-loop : tie.MeasureT-loop
 μ-loop file contents places first₀ next₀ fold₀ first next fold = fold
@@ -81,7 +82,8 @@ loop-again c =
     let at = c .before .before .loop in
     let e : at .fold ≡ at .fold - 1 + 1 = omega arith in (
       omega arith,
-      linked-more (rules (start (c .before .before))) (at .fold - 1) (omega arith) (at .first) (at .next) (few-here (c .before .before)) (rw e at (at .inv .1)) (c .head-of .ensures .0) (c .head-of .ensures .1),
+      linked-more (rules (start (c .before .before))) (at .fold - 1) (omega arith) (at .first) (at .next) (few-here (c .before .before)) (rw e at (at .inv .1))
+          (c .head-of .ensures .0) (c .head-of .ensures .1),
     )
 
 returns : tie.Need-returns Inv-loop μ-loop

@@ -16,8 +16,9 @@ module _ (c : tie.Else1) where
   abbrev start : tie.Start
   start = c .before .before .before .before
 
-  is : entryIfAny (programIn (now (start .args .file))) (start .args .o) ≡ entry (programIn (now (start .args .file))) (start .args .o)
-  is = some-entry (programIn (now (start .args .file))) (start .args .o) (c .before .entry-length .ensures .0) (c .if1 .left)
+  is : entryIfAny (programIn (now (start .args .file))) (start .args .o .0)
+      ≡ entry (programIn (now (start .args .file))) (start .args .o .0)
+  is = some-entry (programIn (now (start .args .file))) (start .args .o .0) (c .before .entry-length .ensures .0) (c .if1 .left)
 
 entry-length-requires : tie.Need-entry-length-requires
 entry-length-requires c κs = search needs
@@ -26,7 +27,7 @@ returns : tie.Need-returns
 unfolding encodeFields
 returns c =
     let a = c .before .before .before .before .args in
-    let none = no-entry (programIn (now (a .file))) (a .o) (c .before .entry-length .ensures .0) (c .if1 .taken) in
+    let none = no-entry (programIn (now (a .file))) (a .o .0) (c .before .entry-length .ensures .0) (c .if1 .taken) in
     (rw none, rw none)
 
 write-entry-requires : tie.Need-write-entry-requires

@@ -1,7 +1,7 @@
 -- `dual::entries::write_entries` meets its contract. The loop's invariant: the entries of the objective literals passed are written.
 -- Assumes nothing.
 use borrow.Author.Needs.{needs}
-use mathlib.Core.Path.{_≡_, refl, ap, _∙_}
+use mathlib.Core.Path.{_≡_, refl, sym, ap, _∙_}
 use mathlib.Core.List.{List}
 use Prim.Native.Nat.{ℕ, _+_, _-_, _*_, _≤_}
 use native.Mathlib.Omega.{arith}
@@ -22,7 +22,8 @@ use Rattle.dual.proofs.entries.write_entries.Statement.{statement}
 use Rattle.dual.proofs.entries.write_entries.Tie as tie
 
 abbrev Inv-loop : tie.InvT-loop
-Inv-loop buffer₀ file contents places first next judged end₀ o₀ buffer end o = (o ≤ judged) × (Tabled (programIn file) buffer₀ buffer o end × (length buffer ≡ length buffer₀))
+Inv-loop buffer₀ file contents places first next judged end₀ o₀ buffer end o =
+    (o ≤ judged) × (Tabled (programIn file) buffer₀ buffer o end × (length buffer ≡ length buffer₀))
 
 abbrev μ-loop : tie.MeasureT-loop
 μ-loop buffer₀ file contents places first next judged end₀ o₀ buffer end o = judged - o
@@ -39,8 +40,14 @@ module _ (c : tie.Start Inv-loop μ-loop) where
 -- ---- at the loop's head
 
 module _ (c : tie.At-loop Inv-loop μ-loop) where
+  abbrev known : tie.After-judged Inv-loop μ-loop
+  known = c .before
+
   abbrev start : tie.Start Inv-loop μ-loop
-  start = c .before .before .before .before
+  start = known .before .before .before
+
+  counted : known .judged .result ≡ judged (program start .atoms)
+  counted = known .judged .ensures ∙ ap judged (sym (atoms start))
 
   -- The bytes of the next entry.
   abbrev entry : List ℕ
@@ -50,17 +57,11 @@ module _ (c : tie.At-loop Inv-loop μ-loop) where
 room : (c : tie.In-loop Inv-loop μ-loop) → c .before .loop .end + length (entry (c .before)) + 3 ≤ length (now (start (c .before) .args .buffer))
 room c =
     let s = start (c .before) in
-    let a = atoms s in
-    omega (arith, c .before .loop .inv .1 .0 .ends, table-room (program s) (2 * s .args .contents .atoms + 1) (c .before .loop .o) (omega arith) (c .loop-test .taken), s .pre .1 .1)
+    let enough = table-room (program s) (known (c .before) .judged .result) (c .before .loop .o) (counted (c .before)) (c .loop-test .taken) in
+    omega (arith, c .before .loop .inv .1 .0 .ends, enough, s .pre .1 .1)
 
-cast-judged : tie.Need-cast-judged Inv-loop μ-loop
-cast-judged c = search needs
-
-mul-judged : tie.Need-mul-judged Inv-loop μ-loop
-mul-judged c = search needs
-
-add-judged : tie.Need-add-judged Inv-loop μ-loop
-add-judged c = search needs
+judged-requires : tie.Need-judged-requires Inv-loop μ-loop
+judged-requires c κs = search needs
 
 loop-holds : tie.Need-loop-holds Inv-loop μ-loop
 loop-holds c =
@@ -84,7 +85,7 @@ write-any-entry-requires c κs =
     let p = ap length (to-end (at .end) (at .buffer)) in
     let d = length-drop (at .end) (at .buffer) in
     let few = few-atoms (now (s .args .file)) (s .args .contents) (s .pre .0 .answer) in
-    (s .pre .0, (s .pre .1 .0, (omega arith, omega (arith, at .inv .1 .1))))
+    (s .pre .0, (s .pre .1 .0, (omega (arith, known (c .before .before) .judged .ensures), omega (arith, at .inv .1 .1))))
 
 add-end : tie.Need-add-end Inv-loop μ-loop
 add-end c = omega (arith, room (c .before .before .before .before), c .before .before .write-any-entry .ensures .0)
@@ -106,7 +107,8 @@ loop-again c =
     let written : part ≡ filled (entry head) (drop end buffer) = rw (to-end end buffer) at (wrote .ensures .1) in (
       omega arith,
       (
-        rw (put-end end buffer part) (tabled-more (program s) (now (s .args .buffer)) buffer (head .loop .o) end (head .loop .inv .1 .0) part (wrote .result) written (wrote .ensures .0)),
+        rw (put-end end buffer part)
+            (tabled-more (program s) (now (s .args .buffer)) buffer (head .loop .o) end (head .loop .inv .1 .0) part (wrote .result) written (wrote .ensures .0)),
         same-len-mid end (length buffer - end) buffer part (wrote .kept .0) ∙ head .loop .inv .1 .1,
       ),
     )
@@ -118,7 +120,7 @@ returns : tie.Need-returns Inv-loop μ-loop
 returns c =
     let at = c .before .loop in
     let s = start (c .before) in
-    tabled-done (program s) (now (s .args .buffer)) (at .buffer) (at .o) (at .end) (at .inv .1 .0) (omega (arith, atoms s))
+    tabled-done (program s) (now (s .args .buffer)) (at .buffer) (at .o) (at .end) (at .inv .1 .0) (omega (arith, counted (c .before)))
 
 pub write-entries-spec : {M : Type 1} → statement M
 write-entries-spec =
@@ -126,9 +128,7 @@ write-entries-spec =
     (tie.spec
     Inv-loop
     μ-loop
-    cast-judged
-    mul-judged
-    add-judged
+    judged-requires
     loop-holds
     sub-write-any-entry
     part-write-any-entry-start

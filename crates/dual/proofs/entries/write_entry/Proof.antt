@@ -23,10 +23,11 @@ use Rattle.dual.proofs.entries.write_entry.Statement.{statement}
 use Rattle.dual.proofs.entries.write_entry.Tie as tie
 
 abbrev Inv-loop : tie.InvT-loop
-Inv-loop buffer₀ file contents places first next o start end₀ fold₀ buffer end fold = Entered (programIn file) next o end₀ buffer₀ buffer fold end × (length buffer ≡ length buffer₀)
+Inv-loop buffer₀ file contents places first next at number end₀ fold₀ buffer end fold =
+    Entered (programIn file) next at end₀ buffer₀ buffer (fold .0) end × (length buffer ≡ length buffer₀)
 
 abbrev μ-loop : tie.MeasureT-loop
-μ-loop buffer₀ file contents places first next o start end₀ fold₀ buffer end fold = 1280 - fold
+μ-loop buffer₀ file contents places first next at number end₀ fold₀ buffer end fold = 1280 - fold .0
 
 -- ---- the folds that the chains hold for the literal
 
@@ -35,13 +36,13 @@ module _ (c : tie.Start Inv-loop μ-loop) where
   program = programIn (now (c .args .file))
 
   abbrev folds : List ℕ
-  folds = foldsOf program (c .args .o)
+  folds = foldsOf program (c .args .o .0)
 
-  followed : foldsAt (now (c .args .next)) (getD (now (c .args .first)) (c .args .o) 0) ≡ folds
-  followed = folds-there program (now (c .args .first)) (now (c .args .next)) (c .args .o) (c .pre .1 .0) (c .pre .1 .1 .0)
+  followed : foldsAt (now (c .args .next)) (getD (now (c .args .first)) (c .args .o .0) 0) ≡ folds
+  followed = folds-there program (now (c .args .first)) (now (c .args .next)) (c .args .o .0) (c .pre .1 .0) (c .pre .1 .1 .0)
 
-  chain : Chain (now (c .args .next)) (getD (now (c .args .first)) (c .args .o) 0) folds
-  chain = c .pre .1 .0 .at (c .args .o) (c .pre .1 .1 .0)
+  chain : Chain (now (c .args .next)) (getD (now (c .args .first)) (c .args .o .0) 0) folds
+  chain = c .pre .1 .0 .at (c .args .o .0) (c .pre .1 .1 .0)
 
 -- ---- once the literal's field is written
 
@@ -54,30 +55,30 @@ module _ (c : tie.After-write-literal Inv-loop μ-loop) where
 
   -- There is room for the folds' fields.
   fits : c .write-literal .result + length (foldBytes (allRules (program start)) (folds start)) ≤ length (c .write-literal .last .0)
-  fits = omega (arith, base, entry-parts (program start) (start .args .o), c .write-literal .kept .0)
+  fits = omega (arith, base, entry-parts (program start) (start .args .o .0), c .write-literal .kept .0)
 
 -- ---- in a turn of the loop
 
-module _ (c : tie.In-loop Inv-loop μ-loop) where
+module _ (c : tie.Then1 Inv-loop μ-loop) where
   abbrev head : tie.At-loop Inv-loop μ-loop
-  head = c .before
+  head = c .before .before
 
   abbrev literal : tie.After-write-literal Inv-loop μ-loop
   literal = head .before .before .before
 
   -- The fold's field.
   abbrev field : List ℕ
-  field = oneFold (allRules (program (start literal))) (head .loop .fold)
+  field = oneFold (allRules (program (start literal))) (head .loop .fold .0)
 
-  of-literal : FoldIn (allRules (program (start literal))) (start literal .args .o) (head .loop .fold)
-  of-literal = entered-fold _ _ _ _ _ _ _ _ (head .loop .inv .0) (fits literal) (c .loop-test .taken)
+  of-literal : FoldIn (allRules (program (start literal))) (start literal .args .o .0) (head .loop .fold .0)
+  of-literal = entered-fold _ _ _ _ _ _ _ _ (head .loop .inv .0) (fits literal) (c .if1 .taken)
 
-  rises : head .loop .fold < getD (now (start literal .args .next)) (head .loop .fold) 0
-  rises = entered-rises _ _ _ _ _ _ _ _ (head .loop .inv .0) (fits literal) (c .loop-test .taken)
+  rises : head .loop .fold .0 < getD (now (start literal .args .next)) (head .loop .fold .0) 0
+  rises = entered-rises _ _ _ _ _ _ _ _ (head .loop .inv .0) (fits literal) (c .if1 .taken)
 
   -- There is room for it.
   room : head .loop .end + length field ≤ length (head .loop .buffer)
-  room = omega (arith, entered-room _ _ _ _ _ _ _ _ (head .loop .inv .0) (fits literal) (c .loop-test .taken), head .loop .inv .1)
+  room = omega (arith, entered-room _ _ _ _ _ _ _ _ (head .loop .inv .0) (fits literal) (c .if1 .taken), head .loop .inv .1)
 
 -- ---- once the fold's field is written
 
@@ -85,34 +86,34 @@ module _ (c : tie.After-write-fold Inv-loop μ-loop) where
   abbrev body : tie.After-body-of Inv-loop μ-loop
   body = c .before .before
 
-  abbrev turn : tie.In-loop Inv-loop μ-loop
+  abbrev turn : tie.Then1 Inv-loop μ-loop
   turn = body .before
 
   size : c .write-fold .result ≡ length (field turn)
-  size = omega (arith, one-length (allRules (program (start (literal turn)))) (head turn .loop .fold), c .write-fold .ensures .0, body .body-of .ensures .size)
+  size = omega (arith, one-length (allRules (program (start (literal turn)))) (head turn .loop .fold .0), c .write-fold .ensures .0, body .body-of .ensures .size)
 
   -- It ends within the buffer.
   ends : head turn .loop .end + c .write-fold .result ≤ length (now (start (literal turn) .args .buffer))
   ends = omega (arith, room turn, size, head turn .loop .inv .1, literal turn .write-literal .kept .0)
 
-mul-start : tie.Need-mul-start Inv-loop μ-loop
-mul-start c = omega arith
+mul-number : tie.Need-mul-number Inv-loop μ-loop
+mul-number c = omega arith
 
-element-copy-out-start : tie.Need-element-copy-out-start Inv-loop μ-loop
-element-copy-out-start c = c .before .before .pre .1 .1 .0
+element-copy-out-number : tie.Need-element-copy-out-number Inv-loop μ-loop
+element-copy-out-number c = c .before .before .pre .1 .1 .0
 
 write-literal-requires : tie.Need-write-literal-requires Inv-loop μ-loop
 write-literal-requires c κs =
     let s = c .before .before .before .before in
     let l = ap length (followed s) in
-    let t = entry-parts (program s) (s .args .o) in
+    let t = entry-parts (program s) (s .args .o .0) in
     (rw (followed s) (chain s), (omega arith, omega arith))
 
 loop-holds : tie.Need-loop-holds Inv-loop μ-loop
 loop-holds c =
     let w = c .before .before in
     let s = start w in
-    (entered-none (program s) (now (s .args .next)) (s .args .o) (w .write-literal .result) (w .write-literal .last .0) _ (omega (arith, fits w)) (chain s), refl)
+    (entered-none (program s) (now (s .args .next)) (s .args .o .0) (w .write-literal .result) (w .write-literal .last .0) _ (omega (arith, fits w)) (chain s), refl)
 
 body-of-requires : tie.Need-body-of-requires Inv-loop μ-loop
 body-of-requires c κs = (start (literal c) .pre .0, of-literal c .below)
@@ -134,23 +135,20 @@ write-fold-requires c κs =
     let body = c .before .body-of .ensures in
     let r = room turn in
     let l = ap length (body .literals) in
-    let o = one-length (allRules (program s)) (at .fold) in
+    let o = one-length (allRules (program s)) (at .fold .0) in
     let p = ap length (to-end (at .end) (at .buffer)) in
     let d = length-drop (at .end) (at .buffer) in
-    let few = few-body (now (s .args .file)) (s .args .contents) (s .pre .0 .answer) (at .fold) (of-literal turn .below) in
+    let few = few-body (now (s .args .file)) (s .args .contents) (s .pre .0 .answer) (at .fold .0) (of-literal turn .below) in
     (omega (arith, body .size), (omega arith, (omega (arith, body .size), omega (arith, body .size))))
 
 add-end : tie.Need-add-end Inv-loop μ-loop
 add-end c = omega (arith, ends (c .before .before))
 
-mul-fold : tie.Need-mul-fold Inv-loop μ-loop
-mul-fold c = omega arith
-
-element-copy-out-fold : tie.Need-element-copy-out-fold Inv-loop μ-loop
-element-copy-out-fold c = c .before .before .before .before .before .loop-test .taken
+next-fold-requires : tie.Need-next-fold-requires Inv-loop μ-loop
+next-fold-requires c κs = c .before .before .before .before .before .if1 .taken
 
 loop-less : tie.Need-loop-less Inv-loop μ-loop
-loop-less c = omega (arith, rises (c .before .before .before .before .before .before))
+loop-less c = omega (arith, rises (c .before .before .before .before .before .before), c .next-fold .ensures)
 
 loop-again : tie.Need-loop-again Inv-loop μ-loop
 loop-again c =
@@ -160,23 +158,24 @@ loop-again c =
     let buffer = head t .loop .buffer in
     let part = w .write-fold .last .0 in
     let written : part ≡ filled (field t) (drop end buffer) = rw (body w .body-of .ensures .literals, to-end end buffer) at (w .write-fold .ensures .1) in (
-      rw (put-end end buffer part) (entered-next _ _ _ _ _ _ _ _ (head t .loop .inv .0) (fits (literal t)) (t .loop-test .taken) part (w .write-fold .result) written (size w)),
+      rw (put-end end buffer part, c .next-fold .ensures)
+          (entered-next _ _ _ _ _ _ _ _ (head t .loop .inv .0) (fits (literal t)) (t .if1 .taken) part (w .write-fold .result) written (size w)),
       same-len-mid end (length buffer - end) buffer part (w .write-fold .kept .0) ∙ head t .loop .inv .1,
     )
 
 same-length : tie.Need-same-length Inv-loop μ-loop
-same-length c = c .before .loop .inv .1 ∙ c .before .before .before .before .write-literal .kept .0
+same-length c = c .before .before .loop .inv .1 ∙ c .before .before .before .before .before .write-literal .kept .0
 
 returns : tie.Need-returns Inv-loop μ-loop
 returns c =
-    let w = c .before .before .before .before in
+    let w = c .before .before .before .before .before in
     let s = start w in
     let a = s .args in
     let l = w .write-literal in
-    let d = entered-done _ _ _ _ _ _ _ _ (c .before .loop .inv .0) (fits w) (c .loop-test .left) in
-    let q : l .last .0 ≡ filled (encodeField 0x08 (encodeNumbers (a .o ∷ folds s))) (now (a .buffer)) = rw (followed s) at (l .ensures .1) in (
-      omega (arith, base w, d .0, entry-parts (program s) (a .o)),
-      entry-written (program s) (a .o) (l .result) (now (a .buffer)) (l .last .0) (c .before .loop .buffer) (base w) (s .pre .1 .1 .1) q (d .1),
+    let d = entered-done _ _ _ _ _ _ _ _ (c .before .before .loop .inv .0) (fits w) (c .if1 .left) in
+    let q : l .last .0 ≡ filled (encodeField 0x08 (encodeNumbers (a .o .0 ∷ folds s))) (now (a .buffer)) = rw (followed s) at (l .ensures .1) in (
+      omega (arith, base w, d .0, entry-parts (program s) (a .o .0)),
+      entry-written (program s) (a .o .0) (l .result) (now (a .buffer)) (l .last .0) (c .before .before .loop .buffer) (base w) (s .pre .1 .1 .1) q (d .1),
     )
 
 pub write-entry-spec : {M : Type 1} → statement M
@@ -185,8 +184,8 @@ write-entry-spec =
     (tie.spec
     Inv-loop
     μ-loop
-    mul-start
-    element-copy-out-start
+    mul-number
+    element-copy-out-number
     write-literal-requires
     loop-holds
     body-of-requires
@@ -195,8 +194,7 @@ write-entry-spec =
     part-write-fold-end
     write-fold-requires
     add-end
-    mul-fold
-    element-copy-out-fold
+    next-fold-requires
     loop-less
     loop-again
     same-length

@@ -1,6 +1,7 @@
 -- `dual::writing::fold_count` meets its contract. The loop's invariant: so many folds lie behind.
 -- Assumes nothing.
-use Prim.Native.Nat.{_-_}
+use mathlib.Core.List.{List}
+use Prim.Native.Nat.{ℕ, _-_}
 use native.Mathlib.Omega.{arith}
 use denote.Ref.{now}
 use Rattle.dual.specs.Chains.{foldsAt}
@@ -9,31 +10,44 @@ use Rattle.dual.proofs.writing.fold_count.Statement.{statement}
 use Rattle.dual.proofs.writing.fold_count.Tie as tie
 
 abbrev Inv-loop : tie.InvT-loop
-Inv-loop next start count₀ fold₀ count fold = Following next (foldsAt next start) fold count
+Inv-loop next count₀ fold₀ count fold = Following next (foldsAt next (fold₀ .0)) (fold .0) count
 
 abbrev μ-loop : tie.MeasureT-loop
-μ-loop next start count₀ fold₀ count fold = 1280 - fold
+μ-loop next count₀ fold₀ count fold = 1280 - fold .0
+
+-- ---- at the loop's head
+
+module _ (c : tie.At-loop Inv-loop μ-loop) where
+  abbrev next : List ℕ
+  next = now (c .before .args .next)
+
+  abbrev folds : List ℕ
+  folds = foldsAt next (c .before .args .start .0)
 
 loop-holds : tie.Need-loop-holds Inv-loop μ-loop
 loop-holds c = following-starts (c .pre)
 
 add-count : tie.Need-add-count Inv-loop μ-loop
-add-count c = omega (arith, c .before .loop .inv .few)
+add-count c = omega (arith, c .before .before .loop .inv .few)
 
-mul-fold : tie.Need-mul-fold Inv-loop μ-loop
-mul-fold c = omega arith
-
-element-copy-out-fold : tie.Need-element-copy-out-fold Inv-loop μ-loop
-element-copy-out-fold c = c .loop-test .taken
+next-fold-requires : tie.Need-next-fold-requires Inv-loop μ-loop
+next-fold-requires c κs = c .if1 .taken
 
 loop-less : tie.Need-loop-less Inv-loop μ-loop
-loop-less c = omega (arith, following-link (now (c .before .before .before .args .next)) (foldsAt (now (c .before .before .before .args .next)) (c .before .before .before .args .start)) (c .before .before .loop .fold) (c .before .before .loop .count) (c .before .before .loop .inv) (c .before .loop-test .taken) .rises)
+loop-less c =
+    let h = c .before .before .before in
+    let link = following-link (next h) (folds h) (h .loop .fold .0) (h .loop .count) (h .loop .inv) (c .before .if1 .taken) in
+    omega (arith, link .rises, c .next-fold .ensures)
 
 loop-again : tie.Need-loop-again Inv-loop μ-loop
-loop-again c = following-next (now (c .before .before .before .args .next)) (foldsAt (now (c .before .before .before .args .next)) (c .before .before .before .args .start)) (c .before .before .loop .fold) (c .before .before .loop .count) (c .before .before .loop .inv) (c .before .loop-test .taken)
+loop-again c =
+    let h = c .before .before .before in
+    rw (c .next-fold .ensures) (following-next (next h) (folds h) (h .loop .fold .0) (h .loop .count) (h .loop .inv) (c .before .if1 .taken))
 
 returns : tie.Need-returns Inv-loop μ-loop
-returns c = following-done (now (c .before .before .args .next)) (foldsAt (now (c .before .before .args .next)) (c .before .before .args .start)) (c .before .loop .fold) (c .before .loop .count) (c .before .loop .inv) (c .loop-test .left) .1
+returns c =
+    let h = c .before .before in
+    following-done (next h) (folds h) (h .loop .fold .0) (h .loop .count) (h .loop .inv) (c .if1 .left) .1
 
 pub fold-count-spec : {M : Type 1} → statement M
 fold-count-spec =
@@ -43,8 +57,7 @@ fold-count-spec =
     μ-loop
     loop-holds
     add-count
-    mul-fold
-    element-copy-out-fold
+    next-fold-requires
     loop-less
     loop-again
     returns)

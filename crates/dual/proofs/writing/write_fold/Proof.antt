@@ -15,10 +15,10 @@ use Rattle.dual.proofs.writing.write_fold.Statement.{statement}
 use Rattle.dual.proofs.writing.write_fold.Tie as tie
 
 abbrev Inv-loop : tie.InvT-loop
-Inv-loop buffer₀ fold body size count i₀ buffer i = (i ≤ count) × (Conjugated buffer₀ body buffer i × (length buffer ≡ length buffer₀))
+Inv-loop buffer₀ body size count i₀ buffer i = (i ≤ count) × (Conjugated buffer₀ body buffer i × (length buffer ≡ length buffer₀))
 
 abbrev μ-loop : tie.MeasureT-loop
-μ-loop buffer₀ fold body size count i₀ buffer i = count - i
+μ-loop buffer₀ body size count i₀ buffer i = count - i
 
 -- ---- once the heading is written
 
@@ -36,7 +36,7 @@ module _ (c : tie.After-put-heading Inv-loop μ-loop) where
 -- ---- once a literal's conjugate is at hand
 
 module _ (c : tie.After-default-conjugate Inv-loop μ-loop) where
-  abbrev literal : tie.After-number-at Inv-loop μ-loop
+  abbrev literal : tie.After-literal-at Inv-loop μ-loop
   literal = c .before
 
   abbrev head : tie.At-loop Inv-loop μ-loop
@@ -46,7 +46,7 @@ module _ (c : tie.After-default-conjugate Inv-loop μ-loop) where
   heading = head .before .before .before
 
   small : c .default-conjugate .result .0 < 65536
-  small = omega (arith, c .default-conjugate .ensures, pair-sum (literal .number-at .result), literal .number-at .ensures .1)
+  small = omega (arith, c .default-conjugate .ensures, pair-sum (literal .literal-at .result .0), literal .literal-at .ensures .1)
 
 add-put-heading : tie.Need-add-put-heading Inv-loop μ-loop
 add-put-heading c = search needs
@@ -59,14 +59,11 @@ loop-holds c =
     let w = c .before .before in
     (omega arith, (conjugated-none (w .put-heading .last .0) (body w) (omega (arith, fits w)), refl))
 
-mul-number-at : tie.Need-mul-number-at Inv-loop μ-loop
-mul-number-at c = search needs
+mul-literal-at : tie.Need-mul-literal-at Inv-loop μ-loop
+mul-literal-at c = search needs
 
-number-at-requires : tie.Need-number-at-requires Inv-loop μ-loop
-number-at-requires c κs = search needs
-
-cast-t15 : tie.Need-cast-t15 Inv-loop μ-loop
-cast-t15 c = search needs
+literal-at-requires : tie.Need-literal-at-requires Inv-loop μ-loop
+literal-at-requires c κs = search needs
 
 default-conjugate-requires : tie.Need-default-conjugate-requires Inv-loop μ-loop
 default-conjugate-requires c κs = search needs
@@ -77,12 +74,9 @@ mul-put-number c = search needs
 add-put-number : tie.Need-add-put-number Inv-loop μ-loop
 add-put-number c = search needs
 
-cast-put-number : tie.Need-cast-put-number Inv-loop μ-loop
-cast-put-number c = omega (arith, small (c .before .before))
-
 put-number-requires : tie.Need-put-number-requires Inv-loop μ-loop
 put-number-requires c κs =
-    let w = c .before .before in
+    let w = c .before in
     (omega (arith, head w .loop .inv .1 .1, heading w .put-heading .kept .0), omega (arith, small w))
 
 add-i : tie.Need-add-i Inv-loop μ-loop
@@ -94,12 +88,13 @@ loop-less c = search needs
 loop-again : tie.Need-loop-again Inv-loop μ-loop
 loop-again c =
     let put = c .before .before .put-number in
-    let w = c .before .before .before .before .before in
+    let w = c .before .before .before .before in
     let at = head w .loop in
     let h = heading w in (
       omega arith,
       (
-        rw (put .ensures) (conjugated-more _ _ _ _ (at .inv .1 .0) (fits h) (literal w .before .loop-test .taken) (literal w .number-at .ensures .0) (w .default-conjugate .ensures)),
+        rw (put .ensures)
+            (conjugated-more _ _ _ _ (at .inv .1 .0) (fits h) (literal w .before .loop-test .taken) (literal w .literal-at .ensures .0) (w .default-conjugate .ensures)),
         put .kept .0 ∙ at .inv .1 .1,
       ),
     )
@@ -116,7 +111,8 @@ returns c =
     let a = start w .args in
     let l = length-map (numbers (body w)) defaultConjugate in (
       refl,
-      field-written 0x09 (a .fold) (2 + length (body w)) (map defaultConjugate (numbers (body w))) (now (a .buffer)) (w .put-heading .last .0) (c .before .loop .buffer) (omega (arith, start w .pre .1 .1 .1)) (omega arith) (w .put-heading .ensures)
+      field-written 0x09 (a .fold .0) (2 + length (body w)) (map defaultConjugate (numbers (body w))) (now (a .buffer)) (w .put-heading .last .0)
+          (c .before .loop .buffer) (omega (arith, start w .pre .1 .1 .1)) (omega arith) (w .put-heading .ensures)
           (conjugated-done _ _ _ _ (c .before .loop .inv .1 .0) (fits w) (c .loop-test .left)),
     )
 
@@ -129,13 +125,11 @@ write-fold-spec =
     add-put-heading
     put-heading-requires
     loop-holds
-    mul-number-at
-    number-at-requires
-    cast-t15
+    mul-literal-at
+    literal-at-requires
     default-conjugate-requires
     mul-put-number
     add-put-number
-    cast-put-number
     put-number-requires
     add-i
     loop-less

@@ -39,7 +39,6 @@ atom-at-requires c κs = search needs
 cast-number : tie.Need-cast-number Inv-loop μ-loop
 cast-number c = search needs
 
-
 returns : tie.Need-returns Inv-loop μ-loop
 returns c =
     let read = c .before .before in
@@ -74,7 +73,7 @@ loop-again c =
     let a = start (begun .before) .args in (
       omega arith,
       begun .before .loop .inv .1
-      ∙ abducibles-next (now (a .content)) _ (a .atoms) (begun .loop-test .taken) (read .atom-at .ensures) _ (c .before .if1 .left) (c .if2 .left),
+          ∙ abducibles-next (now (a .content)) _ (a .atoms) (begun .loop-test .taken) (read .atom-at .ensures) _ (c .before .if1 .left) (c .if2 .left),
     )
 
 returns-3 : tie.Need-returns-3 Inv-loop μ-loop

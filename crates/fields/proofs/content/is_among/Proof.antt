@@ -58,7 +58,7 @@ loop-again c =
     let a = start (begun .before) .args in (
       omega arith,
       begun .before .loop .inv .1
-      ∙ among-next (now (a .abducibles)) _ (a .atom .0) (begun .loop-test .taken) (read .atom-at .ensures) (c .if1 .left),
+          ∙ among-next (now (a .abducibles)) _ (a .atom .0) (begun .loop-test .taken) (read .atom-at .ensures) (c .if1 .left),
     )
 
 returns-2 : tie.Need-returns-2 Inv-loop μ-loop

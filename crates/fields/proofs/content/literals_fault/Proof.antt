@@ -62,7 +62,7 @@ loop-again c =
     let listed = sym (tested .is-literal-listed .ensures) ∙ not-false _ (c .if1 .left) in (
       omega arith,
       begun .before .loop .inv .1
-      ∙ literals-next (now (a .content)) _ (a .atoms) (begun .loop-test .taken) (tested .before .literal-at .ensures .0) listed,
+          ∙ literals-next (now (a .content)) _ (a .atoms) (begun .loop-test .taken) (tested .before .literal-at .ensures .0) listed,
     )
 
 returns-2 : tie.Need-returns-2 Inv-loop μ-loop
