@@ -35,6 +35,7 @@ use Rattle.model.proofs.SetLaws.{Sub, has-within, full-in, sub-refl}
 use Rattle.model.proofs.LeastLaws.{body-mono, least-closed, least-is}
 use Rattle.model.proofs.Support.{supported-tells, supported-is}
 use Rattle.lanes.proofs.LaneLaws.{lane-or, has-lane, sized, total-set}
+use Rattle.lanes.proofs.WordLaws.{literals-of}
 
 -- ---- rules over n objective literals
 
@@ -51,7 +52,7 @@ rules-judged p v = record {
 }
 
 pub body-few : {n : ℕ} {rules : List Rule} → Judged n rules → (k : ℕ) → k < length rules → Literals 513 ((getD rules k noRule) .body)
-body-few j k h = record { below = all-each (λ l b. omega (arith, j .few)) (j .body k h .below) }
+body-few j k h = literals-of (j .few) (j .body k h)
 
 -- Those of an accepted file are over its judged literals.
 pub file-judged : (bytes : List ℕ) (contents : Contents) → fileAnswer (readFile bytes) ≡ Accepted contents

@@ -11,6 +11,7 @@ use lib.ListN.{length, getD, drop}
 use Rattle.literals.specs.Numbering.{defaultNegated}
 use Rattle.papers.specs.Field.{number, numbers}
 use Rattle.papers.specs.Valid.{All, each}
+use Rattle.papers.proofs.Lists.{all-each}
 use Rattle.papers.proofs.Walking.{no-number, read-number}
 use Rattle.model.specs.Tests.{_and_}
 use Rattle.model.specs.Sets.{has}
@@ -57,6 +58,10 @@ literals-first h = all-first (h .below)
 
 literals-more : {n x : ℕ} {more : List ℕ} → Literals n (x ∷ more) → Literals n more
 literals-more h = record { below = all-more (h .below) }
+
+-- Of n objective literals, so of more.
+pub literals-of : {n m : ℕ} {body : List ℕ} → n ≤ m → Literals n body → Literals m body
+literals-of h w = record { below = all-each (λ l b. omega arith) (w .below) }
 
 module _ (body set negated : List ℕ) where
   pub word-starts : WordTo 0 body set negated 18446744073709551615

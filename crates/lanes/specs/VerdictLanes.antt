@@ -16,7 +16,6 @@ use Rattle.model.specs.Sets.{has}
 use Rattle.model.specs.LeastSet.{bodyHolds}
 use Rattle.model.specs.Model.{rounds, explains}
 use Rattle.lanes.specs.Lanes.{inLane, lane}
-use Rattle.lanes.specs.Words.{Literals}
 use Rattle.lanes.specs.FalseWords.{DualStarts}
 
 -- Accepted papers with the places of their folds, the dual in its buffer, and the query as a part of the sheet.
@@ -27,7 +26,7 @@ pub record Prepared (file : List ℕ) (contents : Contents) (places dual query :
 
 -- The lanes in which falsum is false and not true, and each literal of the query holds.
 pub record ExplainedWord (n : ℕ) (query trues falses : List ℕ) (word : ℕ) : Type 0 where
-  pub at : (l : ℕ) → l < 64 → Literals (judged n) query
+  pub at : (l : ℕ) → l < 64
       → inLane l word
       ≡ ((not (has (lane (judged n) l trues) (falsum n)) and has (lane (judged n) l falses) (falsum n))
       and bodyHolds (lane (judged n) l trues) (lane (judged n) l falses) query)

@@ -1,5 +1,6 @@
 // Which of 64 scenarios are explanations.
 ghost use Prim.Native.Nat.{_<_, _≤_};
+ghost use Rattle.literals.specs.Numbering.{judged};
 ghost use Rattle.papers.specs.Field.{numbers};
 ghost use Rattle.papers.specs.Reading.{programIn};
 ghost use Rattle.lanes.specs.Words.{Literals};
@@ -11,7 +12,7 @@ use papers::Contents;
 
 // The lanes in which falsum is false and not true, and each literal of the query holds.
 pub fn explained_lanes(query: &[u8], atoms: u16, trues: &[u64; 513], falses: &[u64; 513]) -> u64
-    requires { ⌜ (atoms ≤ 256) × Literals 513 (numbers (now query)) ⌝ }
+    requires { ⌜ (atoms ≤ 256) × Literals (judged atoms) (numbers (now query)) ⌝ }
     ensures { λ r. ⌜ ExplainedWord atoms (numbers (now (query .entry))) (now (trues .entry)) (now (falses .entry)) r ⌝ }
 {
     lent_known(trues);

@@ -53,10 +53,7 @@ explained-lanes-requires : tie.Need-explained-lanes-requires
 explained-lanes-requires c κs =
     let written = c .before .before .before .before in
     let known = written .before .before .before .before in
-    let a = start known .args in
-    let f = few known in
-    let e = same known in
-    (f, query-listed ((programIn (now (a .file))) .atoms) 256 (numbers (now (a .query))) (omega arith) (start known .pre .0 .asked))
+    (few known, rw (same known) at (query-listed (start known .pre .0 .asked)))
 
 array-read-t27 : tie.Need-array-read-t27
 array-read-t27 c = search needs

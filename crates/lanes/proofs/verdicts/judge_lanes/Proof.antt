@@ -3,7 +3,6 @@
 use mathlib.Core.Path.{_≡_}
 use mathlib.Core.List.{List}
 use Prim.Native.Nat.{ℕ}
-use native.Mathlib.Omega.{arith}
 use denote.Ref.{now}
 use Rattle.papers.specs.Field.{numbers}
 use Rattle.papers.specs.Program.{Program}
@@ -35,8 +34,7 @@ explained-lanes-requires : tie.Need-explained-lanes-requires
 explained-lanes-requires c κs =
     let s = start (c .before .before .before .before) in
     let few = few-atoms (now (s .args .file)) (s .args .contents) (s .pre .0 .walked .answer) in
-    let same = atoms s in
-    (few, query-listed (program s .atoms) 256 (query s) (omega arith) (s .pre .0 .asked))
+    (few, rw (atoms s) at (query-listed (s .pre .0 .asked)))
 
 returns : tie.Need-returns
 returns c =
@@ -44,7 +42,8 @@ returns c =
     let settled = c .before .before .before .before .before .before in
     let s = start settled in
     let r = settled .settle .result in
-    verdict-lanes (program s) (s .args .base) (r .model .t) (r .model .f) (r .rounds) (settled .settle .ensures .0) (query s) (explained .result) (s .pre .0 .asked) (rw (atoms s) (explained .ensures))
+    verdict-lanes (program s) (s .args .base) (r .model .t) (r .model .f) (r .rounds) (settled .settle .ensures .0) (query s) (explained .result) (s .pre .0 .asked)
+    (rw (atoms s) (explained .ensures))
 
 pub judge-lanes-spec : {M : Type 1} → statement M
 judge-lanes-spec = tie.close (tie.spec settle-requires explained-lanes-requires returns)
