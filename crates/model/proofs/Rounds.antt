@@ -11,12 +11,12 @@ use lib.Dec.{T, T-not, not-T, ltb}
 use lib.ListN.{length}
 use Rattle.literals.specs.Numbering.{explicitConjugate, judged}
 use Rattle.papers.specs.Program.{Program, allRules}
-use Rattle.model.specs.Sets.{Set}
+use Rattle.model.specs.Sets.{Set, complement}
 use Rattle.model.specs.Iteration.{iterate}
 use Rattle.model.specs.Model.{conjugateIn, Interpretation, sameInterpretation, trueReduct, possibleReduct, trueSet, possibleSet, falseSet}
 use Rattle.model.specs.Model.{successor, start, interpretationAt, rounds, model}
 use Rattle.model.proofs.TestLaws.{both, left, right, and-mono, is-true, is-false}
-use Rattle.model.proofs.SetLaws.{Sub, length-empty, length-complement, setOf-mono, complement-mono, sub-refl, sub-trans, empty-sub}
+use Rattle.model.proofs.SetLaws.{Sub, length-empty, length-complement, complement-twice, setOf-mono, complement-mono, sub-refl, sub-trans, empty-sub}
 use Rattle.model.proofs.SetLaws.{count, count-le, grows, sameSet-eq, sameSet-refl}
 use Rattle.model.proofs.Chain.{rests, still-on, first-le, first-still, none-before}
 use Rattle.model.proofs.LeastLaws.{Closed, least-length, least-closed, least-in, least-mono}
@@ -92,6 +92,10 @@ module _ (p : Program) (s : ℕ) where
   pub possible-least : (t set : Set) → Closed (judged (p .atoms)) (allRules p) (possibleReduct p s t) set → Sub (possibleSet p s t) set
   unfolding possibleSet
   possible-least t = least-in (judged (p .atoms)) (allRules p) (possibleReduct p s t)
+
+  pub possible-length : (t : Set) → length (possibleSet p s t) ≡ judged (p .atoms)
+  unfolding possibleSet
+  possible-length t = least-length (judged (p .atoms)) (allRules p) (possibleReduct p s t)
 
   pub false-length : (t : Set) → length (falseSet p s t) ≡ judged (p .atoms)
   unfolding falseSet
@@ -174,6 +178,13 @@ module _ (p : Program) (s : ℕ) where
   model-fixed =
       let r = stationary in
       first-still sameInterpretation (successor p s) same-eq same-refl (2 * judged (p .atoms)) (start p s) (r .0) (r .1) (r .2)
+
+  -- so that its P is what its F leaves,
+  pub model-possible : complement (judged (p .atoms)) (model p s .falses) ≡ possibleSet p s (model p s .trues)
+  unfolding successor falseSet
+  model-possible =
+      ap (λ (i : Interpretation). complement (judged (p .atoms)) (i .falses)) (sym model-fixed)
+      ∙ complement-twice (judged (p .atoms)) (possibleSet p s (model p s .trues)) (possible-length (model p s .trues))
 
   -- and none before it does.
   pub model-first : (j : ℕ) → j < rounds p s → interpretationAt p s (suc j) ≡ interpretationAt p s j → ⊥

@@ -118,6 +118,16 @@ module _ (n : ℕ) (s : Set) where
   unfolding complement
   complement-of o h k = setOf-of n (λ q. not (has s q)) o h (not-T (has s o) k)
 
+-- The complement of the complement is the set.
+pub complement-twice : (n : ℕ) (s : Set) → length s ≡ n → complement n (complement n s) ≡ s
+complement-twice n s e = set-ext n (complement n (complement n s)) s (length-complement n (complement n s)) e agree where
+  twice : (b : Bool) → not (not b) ≡ b
+  twice true = refl
+  twice false = refl
+
+  agree : (o : ℕ) → o < n → has (complement n (complement n s)) o ≡ has s o
+  agree o h = has-complement n (complement n s) o h ∙ ap not (has-complement n s o h) ∙ twice (has s o)
+
 -- The complement shrinks where the set grows.
 pub complement-mono : (n : ℕ) {s t : Set} → Sub s t → Sub (complement n t) (complement n s)
 complement-mono n {s} {t} h = record {
