@@ -6,29 +6,29 @@ use mathlib.Core.List.{List}
 use Prim.Native.Nat.{ℕ, _+_, _<_}
 use native.Mathlib.Omega.{arith}
 use lib.Dec.{T}
-use lib.ListN.{length, getD, replicate, length-replicate, getD-replicate}
+use lib.ListN.{length, getD, replicate}
 use Rattle.literals.specs.Numbering.{judged}
 use Rattle.papers.specs.Program.{Program}
-use Rattle.papers.specs.Valid.{Valid}
 use Rattle.dual.specs.Table.{dual}
 use Rattle.model.specs.Tests.{_or_}
 use Rattle.model.specs.Sets.{Set, has}
 use Rattle.model.specs.Scenarios.{falseAbducible}
 use Rattle.model.specs.Model.{conjugateIn}
 use Rattle.model.specs.Falsity.{entryHolds, backed, greatest}
-use Rattle.lanes.specs.Lanes.{inLane, lane}
+use Rattle.lanes.specs.Lanes.{inLane, lane, NoneBeyond}
 use Rattle.lanes.specs.FalseWords.{GivenBacked, GreatestGiven, FalseWords, DroppedTo}
-use Rattle.lanes.specs.Words.{total}
+use Rattle.lanes.specs.Words.{ComplementWords, total}
 use Rattle.model.proofs.TestLaws.{or-assoc}
 use Rattle.model.proofs.SetLaws.{has-within}
 use Rattle.model.proofs.FalsityLaws.{greatest-only}
-use Rattle.lanes.proofs.LaneLaws.{lane-full, sized as lane-sized, has-lane}
+use Rattle.lanes.proofs.LaneLaws.{lane-none, zeros, sized as lane-sized, has-lane}
 
 -- ---- all passes
 
 -- Nothing of a backed set is lost so far; where the passes have stopped, each is backed.
 pub record Closing (p : Program) (truth backing falses : List ℕ) (going : Bool) : Type 0 where
   pub long : length falses ≡ 513
+  pub beyond : NoneBeyond (judged (p .atoms)) falses
   pub keeps : (l : ℕ) → l < 64 → (t : Set) → GivenBacked p (lane (judged (p .atoms)) l backing) (lane (judged (p .atoms)) l truth) t
       → (o : ℕ) → T (has t o) → T (inLane l (getD falses o 0))
   pub backed : going ≡ false → (l o : ℕ) → l < 64 → o < judged (p .atoms) → T (inLane l (getD falses o 0))
@@ -39,14 +39,16 @@ abbrev pub left : List ℕ → Bool → ℕ
 left falses going = total falses + cond going 1 0
 
 module _ (p : Program) (truth backing : List ℕ) where
-  pub closing-none : Valid p → Closing p truth backing (replicate 513 18446744073709551615) true
-  closing-none v = record {
-    long = length-replicate {A = ℕ} 513 18446744073709551615;
+  -- All judged literals: what nothing leaves.
+  pub closing-none : {count : ℕ} {all : List ℕ} → count ≡ judged (p .atoms) → length all ≡ 513 → ComplementWords count (replicate 513 0) all
+      → Closing p truth backing all true
+  closing-none {count} {all} e long c = record {
+    long = long;
+    beyond = record { at = λ o h. c .beyond .at o (omega arith) };
     keeps = λ l h t b o y.
         let m = has-within t o y in
         let z = b .sized in
-        let f = v .fewAtoms in
-        rw (getD-replicate {A = ℕ} 513 o 18446744073709551615 0 (omega arith), lane-full l h) tt;
+        rw (c .at l o h (omega arith), zeros 513 o, lane-none l) tt;
     backed = λ e. absurd (true≢false e);
   }
 
@@ -55,6 +57,7 @@ module _ (p : Program) (truth backing : List ℕ) where
     pub closing-more : Closing p truth backing after changed
     closing-more = record {
       long = d .long;
+      beyond = record { at = λ o h. d .beyond o (omega arith) ∙ w .beyond .at o h };
       keeps = λ l h t b. d .keeps l h t b (w .keeps l h t b);
       backed = λ e l o h k x.
           let s = d .same e in
@@ -83,6 +86,7 @@ module _ (p : Program) (truth backing : List ℕ) where
           let k : o < judged (p .atoms) = omega arith in
           rw (has-lane (judged (p .atoms)) l o falses k) (w .keeps l h t b o y);
     };
+    beyond = w .beyond;
   } where
     inside : (l o : ℕ) → T (has (lane (judged (p .atoms)) l falses) o) → o < judged (p .atoms)
     inside l o y = let m = has-within (lane (judged (p .atoms)) l falses) o y in let e = lane-sized (judged (p .atoms)) l falses in omega arith

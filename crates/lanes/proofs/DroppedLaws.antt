@@ -83,6 +83,7 @@ module _ (p : Program) (truth backing before : List ℕ) where
   pub dropped-none : length before ≡ 513 → DroppedTo 0 p truth backing before before false
   dropped-none e = record {
     long = e;
+    beyond = λ o h. refl;
     keeps = λ l h t b i. i;
     same = λ q. refl;
     backed = λ q l o h k x. absurd (omega arith);
@@ -102,6 +103,9 @@ module _ (p : Program) (truth backing before : List ℕ) where
 
     long : length (set after o new) ≡ 513
     long = rw (length-set after o new) (d .long)
+
+    beyond : (q : ℕ) → o + 1 ≤ q → getD (set after o new) q 0 ≡ getD before q 0
+    beyond q h = getD-set-other after o q new 0 (λ e. absurd (omega arith)) ∙ d .beyond q (omega arith)
 
     new-lane : (l : ℕ) → inLane l new ≡ (inLane l (getD after o 0) and (inLane l (getD backing o 0) or inLane l word))
     new-lane l = rw (lane-and l (getD after o 0) (bitOr (getD backing o 0) word), lane-or l (getD backing o 0) word)
@@ -138,6 +142,7 @@ module _ (p : Program) (truth backing before : List ℕ) where
     pub dropped-less : (new ≡ getD after o 0 → ⊥) → DroppedTo (o + 1) p truth backing before (set after o new) true
     dropped-less ne = record {
       long = long;
+      beyond = beyond;
       keeps = keeps;
       same = λ q. absurd (true≢false q);
       backed = λ q l r h k x. absurd (true≢false q);
@@ -153,6 +158,7 @@ module _ (p : Program) (truth backing before : List ℕ) where
     pub dropped-same : new ≡ getD after o 0 → DroppedTo (o + 1) p truth backing before (set after o new) changed
     dropped-same e = record {
       long = long;
+      beyond = beyond;
       keeps = keeps;
       same = λ q. still ∙ d .same q;
       backed = λ q l r h k x.

@@ -4,18 +4,20 @@ use mathlib.Core.Path.{_≡_, refl, sym, ap, subst, _∙_}
 use mathlib.Core.Bool.{true, false, not}
 use mathlib.Core.List.{List, [], _∷_}
 use Prim.Native.Nat.{ℕ, zero, suc, _+_, _-_, _/_, _%_, _^_, _<_, min, max}
+use native.Mathlib.Decide.{ℕ-discrete}
 use native.Mathlib.Omega.{arith}
 use native.Mathlib.Nat.{zero-div, pow-suc}
 use lib.Arith.{digits-mod, lt-one}
 use lib.Bits.{bitAnd, bitOr, bitXor, differ, and-shr, and-step, or-shr, or-step, xor-shr, xor-step, xor-add-and, and-mask}
 use lib.Dec.{eqb}
 use lib.ListN.{length, getD, set, replicate}
+use lib.Seq.{getD-set-same, getD-set-other}
 use lib.Pow.{high, low, ones-split, ones-lt, shr-shr}
 use Rattle.model.specs.Tests.{_and_, _or_}
-use Rattle.model.specs.Sets.{has, sameFlag}
+use Rattle.model.specs.Sets.{has, complement, sameFlag}
 use Rattle.lanes.specs.Lanes.{inLane, lane}
-use Rattle.lanes.specs.Words.{total}
-use Rattle.model.proofs.SetLaws.{length-setOf, has-setOf}
+use Rattle.lanes.specs.Words.{ComplementWords, Laned, total}
+use Rattle.model.proofs.SetLaws.{length-setOf, has-setOf, length-complement, has-complement, set-ext}
 
 -- ---- a bit as a number
 
@@ -174,6 +176,31 @@ sized n l words = length-setOf _ n
 pub has-lane : (n l o : ℕ) (words : List ℕ) → o < n → has (lane n l words) o ≡ inLane l (getD words o 0)
 unfolding lane
 has-lane n l o words h = has-setOf _ n o h
+
+-- ---- the other lanes
+
+module _ (words : List ℕ) where
+  pub complement-none : ComplementWords 0 words (replicate 513 0)
+  complement-none = record { at = λ l o h k. absurd (omega arith); beyond = record { at = λ o h. zeros 513 o } }
+
+  pub complement-more : (o : ℕ) (after : List ℕ) → Laned words → o < length after → ComplementWords o words after
+      → ComplementWords (o + 1) words (set after o (18446744073709551615 - getD words o 0))
+  complement-more o after w h c = record {
+    at = λ l j k b. elim (ℕ-discrete j o) [
+      | yes e ↦ rw (e, getD-set-same after o (18446744073709551615 - getD words o 0) 0 h) (lane-not l (getD words o 0) k (w .fits o))
+      | no e ↦ rw (getD-set-other after o j (18446744073709551615 - getD words o 0) 0 e) (c .at l j k (omega arith))
+    ];
+    beyond = record { at = λ j k. getD-set-other after o j _ 0 (λ e. absurd (omega arith)) ∙ c .beyond .at j (omega arith) };
+  }
+
+-- The first words with their other lanes are the other literals, in each lane.
+pub complement-lane : (n l : ℕ) (words after : List ℕ) → l < 64 → ComplementWords n words after → lane n l after ≡ complement n (lane n l words)
+complement-lane n l words after h c =
+    set-ext n (lane n l after) (complement n (lane n l words)) (sized n l after) (length-complement n (lane n l words)) (λ o k.
+    has-lane n l o after k
+    ∙ c .at l o h k
+    ∙ ap not (sym (has-lane n l o words k))
+    ∙ sym (has-complement n (lane n l words) o k))
 
 -- ---- the sum of the words
 

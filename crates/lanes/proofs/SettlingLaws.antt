@@ -9,19 +9,20 @@ use native.Mathlib.Omega.{arith}
 use borrow.Author.Tests.{lt-ltb, le-ltb, ltb-true, ltb-false, eqb-true, not-false}
 use lib.Bits.{bitOr, or-lt}
 use lib.Dec.{eqb, ltb}
-use lib.ListN.{getD, replicate, getD-replicate}
+use lib.ListN.{getD, replicate}
 use Rattle.literals.specs.Numbering.{judged}
 use Rattle.papers.specs.Program.{Program}
 use Rattle.model.specs.Tests.{_or_}
-use Rattle.model.specs.Sets.{has, empty}
+use Rattle.model.specs.Sets.{Set, has, empty, complement}
 use Rattle.model.specs.Iteration.{iterate}
 use Rattle.model.specs.Model.{Interpretation, trueSet, falseSet, successor, start, interpretationAt, rounds}
-use Rattle.lanes.specs.Lanes.{inLane, lane, Changed, AbducibleLanes}
-use Rattle.lanes.specs.RoundLanes.{ComplementWords, NextRound, MarkedLanes, SettledLanes}
+use Rattle.lanes.specs.Lanes.{inLane, lane, NoneBeyond, Changed, AbducibleLanes}
+use Rattle.lanes.specs.Words.{ComplementWords}
+use Rattle.lanes.specs.RoundLanes.{NextRound, MarkedLanes, SettledLanes, HeldLanes}
 use Rattle.model.proofs.TestLaws.{is-false}
 use Rattle.model.proofs.SetLaws.{length-empty, empty-out, set-ext}
-use Rattle.lanes.proofs.LaneLaws.{lane-or, lane-none, zeros, words-same, sized, has-lane}
-use Rattle.model.proofs.Rounds.{interpretation-eq, next-is, rounds-le, model-first, model-on}
+use Rattle.lanes.proofs.LaneLaws.{lane-or, lane-none, zeros, words-same, sized, has-lane, complement-lane}
+use Rattle.model.proofs.Rounds.{interpretation-eq, next-is, rounds-le, model-possible, model-first, model-on}
 
 module _ (p : Program) (s j : ℕ) where
   -- j + 1 is the round after j.
@@ -136,31 +137,50 @@ module _ (p : Program) (base : ℕ) where
       past : (l : ℕ) → l < 64 → rounds p (base + l) ≤ j + 1
       past l b = let q = still l b in omega arith
 
+  -- P of the models is what F leaves.
+  pub held : {n : ℕ} {t possible f counts : List ℕ} → p .atoms ≡ n → SettledLanes p base t f counts → NoneBeyond (judged (p .atoms)) t
+      → NoneBeyond (judged (p .atoms)) f → ComplementWords (judged n) f possible → HeldLanes p base t possible f
+  held {t = t} {possible = possible} {f = f} e s x y c = record {
+    possible-in = λ l h.
+        complement-lane (judged (p .atoms)) l f possible h left
+        ∙ ap (λ (set : Set). complement (judged (p .atoms)) set) (s .false-in l h)
+        ∙ model-possible p (base + l);
+    true-beyond = x;
+    possible-beyond = left .beyond;
+    false-beyond = y;
+  }
+    where
+      left : ComplementWords (judged (p .atoms)) f possible
+      left = subst (λ (m : ℕ). ComplementWords (judged m) f possible) (sym e) c
+
   -- What the loop over rounds knows: the interpretation of the last round, and whether it was still changing.
-  pub record Settling (j : ℕ) (going : Bool) (t p′ f counts : List ℕ) : Type 0 where
+  pub record Settling (j : ℕ) (going : Bool) (t f counts : List ℕ) : Type 0 where
     pub lanes : LanesAt j t f
     pub counted : CountedTo j counts
-    pub left : ComplementWords f p′
+    pub true-beyond : NoneBeyond (judged (p .atoms)) t
+    pub false-beyond : NoneBeyond (judged (p .atoms)) f
     pub goes : going ≡ true → j ≤ 2 * judged (p .atoms)
     pub rests : going ≡ false → SettledLanes p base t f counts
 
-  pub settling-start : Settling 0 true (replicate 513 0) (replicate 513 18446744073709551615) (replicate 513 0) (replicate 64 0)
+  pub settling-start : Settling 0 true (replicate 513 0) (replicate 513 0) (replicate 64 0)
   settling-start = record {
     lanes = lanes-start;
     counted = counted-none;
-    left = record { at = λ o h. getD-replicate {A = ℕ} 513 o 18446744073709551615 0 h ∙ let z = zeros 513 o in omega arith };
+    true-beyond = record { at = λ o h. zeros 513 o };
+    false-beyond = record { at = λ o h. zeros 513 o };
     goes = λ e. omega arith;
     rests = λ e. absurd (true≢false e);
   }
 
-  pub settling-next : (j n w v : ℕ) (trues falses t pw f counts t′ pw′ f′ counts′ : List ℕ) → p .atoms ≡ n → AbducibleLanes p base trues falses
-      → Settling j true t pw f counts → NextRound p trues falses t f t′ f′ → ComplementWords f′ pw′ → Changed (2 * n + 1) t t′ w
-      → Changed (2 * n + 1) f f′ v → w < 2 ^ 64 → v < 2 ^ 64 → MarkedLanes (bitOr w v) (j + 1) counts counts′
-      → Settling (j + 1) (not (eqb (bitOr w v) 0)) t′ pw′ f′ counts′
-  settling-next j n w v trues falses t pw f counts t′ pw′ f′ counts′ e a s r q c d k k′ m = record {
+  pub settling-next : (j n w v : ℕ) (trues falses t f counts t′ f′ counts′ : List ℕ) → p .atoms ≡ n → AbducibleLanes p base trues falses
+      → Settling j true t f counts → NextRound p trues falses t f t′ f′ → Changed (judged n) t t′ w → Changed (judged n) f f′ v
+      → w < 2 ^ 64 → v < 2 ^ 64 → MarkedLanes (bitOr w v) (j + 1) counts counts′
+      → Settling (j + 1) (not (eqb (bitOr w v) 0)) t′ f′ counts′
+  settling-next j n w v trues falses t f counts t′ f′ counts′ e a s r c d k k′ m = record {
     lanes = after;
     counted = counted;
-    left = q;
+    true-beyond = r .true-beyond base a;
+    false-beyond = r .false-beyond;
     goes = λ g.
         let few = rounds-left j (bitOr w v) (or-lt 64 w v k k′) told (λ z. absurd (true≢false (sym g ∙ ap (λ (x : ℕ). not (eqb x 0)) z))) in
         omega arith;
@@ -172,8 +192,8 @@ module _ (p : Program) (base : ℕ) where
 
       told : (l : ℕ) → l < 64 → inLane l (bitOr w v) ≡ ltb j (rounds p (base + l))
       told l b =
-          changed-lane j t f t′ f′ w v l b (s .lanes) after (subst (λ (m : ℕ). Changed (2 * m + 1) t t′ w) (sym e) c)
-          (subst (λ (m : ℕ). Changed (2 * m + 1) f f′ v) (sym e) d)
+          changed-lane j t f t′ f′ w v l b (s .lanes) after (subst (λ (m : ℕ). Changed (judged m) t t′ w) (sym e) c)
+          (subst (λ (m : ℕ). Changed (judged m) f f′ v) (sym e) d)
 
       counted : CountedTo (j + 1) counts′
       counted = counted-next j (bitOr w v) counts counts′ told (s .counted) m

@@ -16,7 +16,7 @@ use Rattle.dual.specs.Answers.{dualOf}
 use Rattle.model.specs.Tests.{_or_}
 use Rattle.model.specs.Sets.{Set, has}
 use Rattle.model.specs.Falsity.{someHolds, foldsHold, entryHolds}
-use Rattle.lanes.specs.Lanes.{inLane, lane}
+use Rattle.lanes.specs.Lanes.{inLane, lane, NoneBeyond}
 use Rattle.lanes.specs.Words.{total}
 
 -- ---- the bytes
@@ -92,14 +92,17 @@ pub record GreatestGiven (p : Program) (given trues set : Set) : Type 0 where
   pub backed : GivenBacked p given trues set
   pub holds : (t : Set) → GivenBacked p given trues t → (o : ℕ) → T (has t o) → T (has set o)
 
--- In each lane.
+-- In each lane; past the judged literals none.
 pub record FalseWords (p : Program) (truth backing falses : List ℕ) : Type 0 where
   pub at : (l : ℕ) → l < 64
       → GreatestGiven p (lane (judged (p .atoms)) l backing) (lane (judged (p .atoms)) l truth) (lane (judged (p .atoms)) l falses)
+  pub beyond : NoneBeyond (judged (p .atoms)) falses
 
 -- What dropping the first `upto` objective literals that are not backed does to the words.
 pub record DroppedTo (upto : ℕ) (p : Program) (truth backing before after : List ℕ) (changed : Bool) : Type 0 where
   pub long : length after ≡ 513
+  -- The others stay.
+  pub beyond : (o : ℕ) → upto ≤ o → getD after o 0 ≡ getD before o 0
   -- Nothing of a backed set is lost.
   pub keeps : (l : ℕ) → l < 64 → (t : Set) → GivenBacked p (lane (judged (p .atoms)) l backing) (lane (judged (p .atoms)) l truth) t
       → ((o : ℕ) → T (has t o) → T (inLane l (getD before o 0))) → (o : ℕ) → T (has t o) → T (inLane l (getD after o 0))

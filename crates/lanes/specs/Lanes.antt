@@ -2,7 +2,7 @@
 use mathlib.Core.Path.{_≡_}
 use mathlib.Core.Bool.{Bool, true, false, cond}
 use mathlib.Core.List.{List}
-use Prim.Native.Nat.{ℕ, _+_, _/_, _%_, _^_, _<_}
+use Prim.Native.Nat.{ℕ, _+_, _/_, _%_, _^_, _≤_, _<_}
 use lib.Dec.{eqb}
 use lib.Bits.{bitOr}
 use lib.ListN.{getD}
@@ -18,6 +18,10 @@ inLane l w = eqb (w / 2 ^ l % 2) 1
 -- The set of lane l, of n flags.
 unfoldable pub lane : ℕ → ℕ → List ℕ → Set
 lane n l words = setOf n (λ o. inLane l (getD words o 0))
+
+-- Past the first n words no lane is set.
+pub record NoneBeyond (n : ℕ) (words : List ℕ) : Type 0 where
+  pub at : (o : ℕ) → n ≤ o → getD words o 0 ≡ 0
 
 -- A word with lane j by a test and the others as they were.
 pub record LaneSet (word j : ℕ) (test : Bool) (after : ℕ) : Type 0 where

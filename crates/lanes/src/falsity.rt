@@ -10,6 +10,7 @@ ghost use Rattle.papers.specs.Reading.{programIn};
 ghost use Rattle.dual.specs.Table.{foldsOf};
 ghost use Rattle.lanes.specs.FalseWords.{Below, listedIn, FoldStands, literalIn, FieldStands, DualStarts, EntriesAt, FoldsAt};
 ghost use Rattle.lanes.specs.FalseWords.{SomeWord, FoldsWord, EntryWord, FalseWords, DroppedTo};
+use crate::words::complement_words;
 use crate::words::word_of;
 use fields::field::number_at;
 
@@ -134,7 +135,7 @@ fn drop_pass(
     changed
 }
 
-// The greatest set, in each lane: from all of them, passes until one changes nothing.
+// The greatest set, in each lane: from all judged literals, passes until one changes nothing.
 pub(crate) fn close_false(
     file: &[u8],
     dual: &[u8],
@@ -146,7 +147,9 @@ pub(crate) fn close_false(
     requires { ⌜ DualStarts (programIn (now file)) (now dual) × (count ≡ judged ((programIn (now file)) .atoms)) ⌝ }
     ensures { λ _. ⌜ FalseWords (programIn (now (file .entry))) (now (truth .entry)) (now (backing .entry)) (now (falses .exit)) ⌝ }
 {
-    *falses = [18446744073709551615; 513];
+    let nothing = [0u64; 513];
+    let all = complement_words(&nothing, count);
+    *falses = all;
     let mut going = true;
     while going {
         going = drop_pass(file, dual, count, truth, backing, falses);

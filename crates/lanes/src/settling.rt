@@ -6,57 +6,50 @@ ghost use Rattle.papers.specs.Reading.{programIn};
 ghost use Rattle.papers.specs.Places.{Walked};
 ghost use Rattle.lanes.specs.FalseWords.{DualStarts};
 ghost use Rattle.lanes.specs.Lanes.{inLane};
-ghost use Rattle.lanes.specs.RoundLanes.{ComplementWords, NextRound, MarkedLanes, SettledLanes};
+ghost use Rattle.lanes.specs.RoundLanes.{NextRound, MarkedLanes, SettledLanes, HeldLanes};
 use crate::backing::backing_words;
 use crate::changes::changed_lanes;
 use crate::digits::abducible_lanes;
 use crate::falsity::close_false;
 use crate::truth::close_true;
+use crate::words::complement_words;
 use papers::Contents;
 
-// The sets of 64 scenarios, a word for each judged literal; P is what F leaves.
+// The model's sets in 64 scenarios, a word for each judged literal. P is made once, where T and F stand: it is what F leaves.
 pub struct Model {
     pub t: [u64; 513],
     pub p: [u64; 513],
     pub f: [u64; 513],
 }
 
-// All words of a row with their other lanes.
-fn complement_words(words: &[u64; 513]) -> [u64; 513]
-    ensures { λ r. ⌜ ComplementWords (now (words .entry)) r ⌝ }
-{
-    let mut after = [0u64; 513];
-    let mut o: usize = 0;
-    while o < 513 {
-        after[o] = !words[o];
-        o += 1;
-    }
-    after
+// (Tj, Fj) in 64 scenarios.
+pub(crate) struct Pair {
+    pub t: [u64; 513],
+    pub f: [u64; 513],
 }
 
 // The next round: T from the file's rules and F(j), F from the dual and T(j).
-pub(crate) fn next_round(
+pub(crate) fn next_round<'a>(
     file: &[u8],
     contents: Contents,
     places: &[usize; 1280],
     dual: &[u8],
     trues: &[u64; 513],
     falses: &[u64; 513],
-    before: Model,
-) -> Model
+    held: &'a [u64; 513],
+    failed: &'a [u64; 513],
+) -> Pair
     requires { ⌜ Walked (now file) contents (now places) × DualStarts (programIn (now file)) (now dual) ⌝ }
-    ensures { λ r. ⌜ NextRound (programIn (now (file .entry))) (now (trues .entry)) (now (falses .entry)) (before .t) (before .f) (r .t) (r .f) × ComplementWords (r .f) (r .p) ⌝ }
+    ensures { λ r. ⌜ NextRound (programIn (now (file .entry))) (now (trues .entry)) (now (falses .entry)) (now (held .entry)) (now (failed .entry))
+        (r .t) (r .f) ⌝ }
 {
-    let held = before.t;
-    let failed = before.f;
     let mut t = *trues;
-    close_true(file, contents, places, &mut t, &failed);
-    let backing = backing_words(&held, falses, contents.atoms);
+    close_true(file, contents, places, &mut t, failed);
+    let backing = backing_words(held, falses, contents.atoms);
     let count = 2 * (contents.atoms as usize) + 1;
     let mut f = [0u64; 513];
-    close_false(file, dual, count, &held, &backing, &mut f);
-    let p = complement_words(&f);
-    Model { t, p, f }
+    close_false(file, dual, count, held, &backing, &mut f);
+    Pair { t, f }
 }
 
 // One of two numbers, by a lane of a word.
@@ -95,7 +88,8 @@ pub fn settle(
     base: u64,
 ) -> Settled
     requires { ⌜ Walked (now file) contents (now places) × (DualStarts (programIn (now file)) (now dual) × (base < 4294967296)) ⌝ }
-    ensures { λ r. ⌜ SettledLanes (programIn (now (file .entry))) base (r .model .t) (r .model .f) (r .rounds) × ComplementWords (r .model .f) (r .model .p) ⌝ }
+    ensures { λ r. ⌜ SettledLanes (programIn (now (file .entry))) base (r .model .t) (r .model .f) (r .rounds)
+        × HeldLanes (programIn (now (file .entry))) base (r .model .t) (r .model .p) (r .model .f) ⌝ }
 {
     let seeds = abducible_lanes(file, contents, base);
     let trues = seeds.trues;
@@ -103,21 +97,33 @@ pub fn settle(
     let count = 2 * (contents.atoms as usize) + 1;
     let mut model = Model {
         t: [0; 513],
-        p: [18446744073709551615; 513],
+        p: [0; 513],
         f: [0; 513],
     };
     let mut rounds = [0u64; 64];
     let mut round: u64 = 0;
     let mut going = true;
     while going {
-        let next = next_round(file, contents, places, dual, &trues, &falses, model);
+        let next = next_round(
+            file,
+            contents,
+            places,
+            dual,
+            &trues,
+            &falses,
+            &model.t,
+            &model.f,
+        );
         let changed = changed_lanes(&model.t, &next.t, count)
             | changed_lanes(&model.f, &next.f, count);
         round += 1;
         let marked = mark_lanes(changed, round, rounds);
         rounds = marked;
-        model = next;
+        model.t = next.t;
+        model.f = next.f;
         going = changed != 0;
     }
+    let possible = complement_words(&model.f, count);
+    model.p = possible;
     Settled { model, rounds }
 }

@@ -1,8 +1,8 @@
 // Sixty-four scenarios at once: bit l of word o says whether o is in the set of lane l.
 ghost use mathlib.Core.Path.{_≡_};
-ghost use Prim.Native.Nat.{_<_};
+ghost use Prim.Native.Nat.{_<_, _≤_};
 ghost use Rattle.papers.specs.Field.{numbers};
-ghost use Rattle.lanes.specs.Words.{wordOf, Literals, BodyWord, Laned};
+ghost use Rattle.lanes.specs.Words.{wordOf, Literals, BodyWord, ComplementWords, Laned};
 use fields::field::number_at;
 
 // The lanes in which a literal holds.
@@ -28,6 +28,21 @@ pub(crate) fn body_word(body: &[u8], set: &[u64; 513], negated: &[u64; 513]) -> 
         i += 1;
     }
     word
+}
+
+// The first words of a row with their other lanes; past them none.
+pub(crate) fn complement_words(words: &[u64; 513], count: usize) -> [u64; 513]
+    requires { ⌜ count ≤ 513 ⌝ }
+    ensures { λ r. ⌜ ComplementWords count (now (words .entry)) r ⌝ }
+{
+    lent_known(words);
+    let mut after = [0u64; 513];
+    let mut o: usize = 0;
+    while o < count {
+        after[o] = !words[o];
+        o += 1;
+    }
+    after
 }
 
 // What is known of an array of words by its type, for the proofs: it computes nothing.

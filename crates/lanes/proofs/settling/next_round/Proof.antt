@@ -12,7 +12,7 @@ use Rattle.lanes.specs.Lanes.{lane, BackingWords}
 use Rattle.model.proofs.FalsityLaws.{falsity-from-dual}
 use Rattle.lanes.proofs.ClosingLaws.{closed-true-set}
 use Rattle.lanes.proofs.ClosingFalse.{lane-greatest}
-use Rattle.lanes.proofs.RoundLaws.{seed-lane, backing-lane}
+use Rattle.lanes.proofs.RoundLaws.{seed-lane, seed-beyond, backing-lane}
 use borrow.Author.Needs.{needs}
 use Rattle.lanes.proofs.settling.next_round.Statement.{statement}
 use Rattle.lanes.proofs.settling.next_round.Tie as tie
@@ -28,20 +28,16 @@ module _ (c : tie.Start) where
 
 -- ---- once T is closed under the rules
 
-module _ (c : tie.After-close-true) where
-  abbrev copied : tie.After-held
-  copied = c .before .before .before .before .before
-
-  abbrev start : tie.Start
-  start = copied .before .before .before
+abbrev start : tie.After-close-true → tie.Start
+start c = c .before .before .before .before .before
 
 -- ---- once the words that back the dual are at hand
 
 module _ (c : tie.After-backing-words) where
   abbrev closed : tie.After-close-true
-  closed = c .before .before
+  closed = c .before
 
-  backing : BackingWords (program (start closed) .atoms) (start closed .args .before .t) (now (start closed .args .falses)) (c .backing-words .result)
+  backing : BackingWords (program (start closed) .atoms) (now (start closed .args .held)) (now (start closed .args .falses)) (c .backing-words .result)
   backing = rw (atoms (start closed)) (c .backing-words .ensures)
 
 close-true-requires : tie.Need-close-true-requires
@@ -49,7 +45,7 @@ close-true-requires c κs = search needs
 
 backing-words-requires : tie.Need-backing-words-requires
 backing-words-requires c κs =
-    let s = start (c .before) in
+    let s = start c in
     few-atoms (now (s .args .file)) (s .args .contents) (s .pre .0 .answer)
 
 cast-count : tie.Need-cast-count
@@ -63,32 +59,35 @@ add-count c = search needs
 
 close-false-requires : tie.Need-close-false-requires
 close-false-requires c κs =
-    let s = start (closed (c .before .before .before .before)) in
+    let s = start (closed (c .before .before .before)) in
     let same = atoms s in
     (s .pre .1, omega arith)
 
-complement-words-requires : tie.Need-complement-words-requires
-complement-words-requires c κs = search needs
-
 returns : tie.Need-returns
 returns c =
-    let closed-false = c .before .before in
-    let backed = closed-false .before .before .before .before .before in
+    let backed = c .before .before .before .before in
     let s = start (closed backed) in
     let a = s .args in
     let p = program s in
     let trues = now (a .trues) in
     let falses = now (a .falses) in
-    let held = a .before .t in
-    let words = backed .backing-words .result in (
-      record {
-        true-in = λ base l h seeds. closed-true-set (closed backed .close-true .ensures) (base + l) l h (seed-lane p base l trues falses h seeds);
-        false-in = λ base l h seeds.
-            lane-greatest p (base + l) l held words _ h (closed-false .close-false .ensures) (backing-lane p base l trues falses held words h seeds (backing backed))
-            ∙ falsity-from-dual p (program-valid (now (a .file)) (a .contents) (s .pre .0 .answer)) (base + l) (lane (judged (p .atoms)) l held);
-      },
-      c .complement-words .ensures,
-    )
+    let held = now (a .held) in
+    let closed-true = closed backed .close-true .ensures in
+    let valid = program-valid (now (a .file)) (a .contents) (s .pre .0 .answer) in
+    let words = backed .backing-words .result in
+    record {
+      true-in = λ base l h seeds. closed-true-set closed-true (base + l) l h (seed-lane p base l trues falses h seeds);
+      false-in = λ base l h seeds.
+          lane-greatest p (base + l) l held words _ h (c .close-false .ensures) (backing-lane p base l trues falses held words h seeds (backing backed))
+          ∙ falsity-from-dual p valid (base + l) (lane (judged (p .atoms)) l held);
+      true-beyond = λ base seeds.
+          record {
+            at = λ o h.
+                let same = closed-true .beyond o h in
+                same ∙ seed-beyond p valid base trues falses seeds o h (rw same at (closed-true .laned .fits o));
+          };
+      false-beyond = c .close-false .ensures .beyond;
+    }
 
 pub next-round-spec : {M : Type 1} → statement M
 next-round-spec =
@@ -100,5 +99,4 @@ next-round-spec =
     mul-count
     add-count
     close-false-requires
-    complement-words-requires
     returns)

@@ -9,13 +9,13 @@ use denote.Ref.{now}
 use Rattle.papers.specs.Program.{Program}
 use Rattle.papers.specs.Reading.{programIn}
 use Rattle.papers.proofs.FileFacts.{atoms-are, few-atoms}
-use Rattle.lanes.proofs.SettlingLaws.{Settling, settling-start, settling-next}
+use Rattle.lanes.proofs.SettlingLaws.{Settling, settling-start, settling-next, held}
 use Rattle.lanes.proofs.settling.settle.Statement.{statement}
 use Rattle.lanes.proofs.settling.settle.Tie as tie
 
 abbrev Inv-loop : tie.InvT-loop
 Inv-loop file contents places dual base trues falses count model₀ rounds₀ round₀ going₀ model rounds round going =
-    Settling (programIn file) base round going (model .t) (model .p) (model .f) rounds
+    Settling (programIn file) base round going (model .t) (model .f) rounds
 
 abbrev μ-loop : tie.MeasureT-loop
 μ-loop file contents places dual base trues falses count model₀ rounds₀ round₀ going₀ model rounds round going = 1027 - round
@@ -47,13 +47,13 @@ module _ (c : tie.In-loop Inv-loop μ-loop) where
   early : head .loop .round < 1027
   early = omega (arith, head .loop .inv .goes (c .loop-test .taken), atoms start, few start)
 
-  settling : Settling (program start) (start .args .base) (head .loop .round) true (head .loop .model .t) (head .loop .model .p) (head .loop .model .f) (head .loop .rounds)
+  settling : Settling (program start) (start .args .base) (head .loop .round) true (head .loop .model .t) (head .loop .model .f) (head .loop .rounds)
   settling = rw (c .loop-test .taken) at (c .before .loop .inv)
 
 -- ---- the places of a turn
 
 abbrev turn : tie.After-next-round Inv-loop μ-loop → tie.In-loop Inv-loop μ-loop
-turn c = c .before .before .before
+turn c = c .before .before .before .before .before .before
 
 abbrev next : tie.After-changed-lanes Inv-loop μ-loop → tie.After-next-round Inv-loop μ-loop
 next c = c .before .before .before .before .before
@@ -96,12 +96,13 @@ mark-lanes-requires c κs = search needs
 
 loop-less : tie.Need-loop-less Inv-loop μ-loop
 loop-less c =
-    let compared = c .before .before .before .before .before .before in
+    let compared = c .before .before .before .before .before .before .before .before in
     omega (arith, early (turn (next compared)))
 
 loop-again : tie.Need-loop-again Inv-loop μ-loop
 loop-again c =
-    let compared = c .before .before .before .before .before .before in
+    let marked = c .before .before in
+    let compared = marked .before .before .before .before .before .before in
     let begun = turn (next compared) in
     let s = start begun in
     let a = s .args in
@@ -109,11 +110,23 @@ loop-again c =
     let at = head begun .loop in
     let n = next compared .next-round in
     let t = compared .changed-lanes in
-    let f = c .before .changed-lanes2 in
-    settling-next (program s) (a .base) (at .round) (a .contents .atoms) (t .result) (f .result) (seeds .result .trues) (seeds .result .falses) (at .model .t) (at .model .p) (at .model .f) (at .rounds) (n .result .t) (n .result .p) (n .result .f) (c .mark-lanes .result) (atoms s) (seeds .ensures) (settling begun) (n .ensures .0) (n .ensures .1) (t .ensures) (f .ensures) (search needs) (search needs) (c .mark-lanes .ensures)
+    let f = marked .before .changed-lanes2 in
+    settling-next (program s) (a .base) (at .round) (a .contents .atoms) (t .result) (f .result) (seeds .result .trues) (seeds .result .falses) (at .model .t)
+    (at .model .f) (at .rounds) (n .result .t) (n .result .f) (marked .mark-lanes .result) (atoms s) (seeds .ensures) (settling begun) (n .ensures)
+    (t .ensures) (f .ensures) (search needs) (search needs) (marked .mark-lanes .ensures)
+
+complement-words-requires : tie.Need-complement-words-requires Inv-loop μ-loop
+complement-words-requires c κs =
+    let left = c .before .before in
+    omega (arith, few (left .before .before .before .before .before .before .before .before))
 
 returns : tie.Need-returns Inv-loop μ-loop
-returns c = (c .before .loop .inv .rests (c .loop-test .left), c .before .loop .inv .left)
+returns c =
+    let left = c .before .before .before in
+    let at = left .before .loop .inv in
+    let s = left .before .before .before .before .before .before .before .before in
+    let settled = at .rests (left .loop-test .left) in
+    (settled, held (program s) (s .args .base) (atoms s) settled (at .true-beyond) (at .false-beyond) (c .complement-words .ensures))
 
 pub settle-spec : {M : Type 1} → statement M
 settle-spec =
@@ -133,4 +146,5 @@ settle-spec =
     mark-lanes-requires
     loop-less
     loop-again
+    complement-words-requires
     returns)
