@@ -26,13 +26,15 @@ pub(crate) fn judge_accepted(
     model: &mut [u8],
 ) -> Judged
     requires { ⌜ Prepared (now file) contents (now places) (now dual) (now query) × (judged ((programIn (now file)) .atoms) ≤ length (now model)) ⌝ }
-    ensures { λ r. ⌜ (r ≡ Judged.Verdict (explains (programIn (now (file .entry))) (numbers (now (query .entry))) scenario) (rounds (programIn (now (file .entry))) scenario)) × (now (model .exit) ≡ filled (modelBytes (programIn (now (file .entry))) scenario) (now (model .entry))) ⌝ }
+    ensures { λ r. ⌜ (r ≡ Judged.Verdict (explains (programIn (now (file .entry))) (numbers (now (query .entry))) scenario)
+        (rounds (programIn (now (file .entry))) scenario))
+        × (now (model .exit) ≡ filled (modelBytes (programIn (now (file .entry))) scenario) (now (model .entry))) ⌝ }
 {
     let settled = settle(file, contents, places, dual, scenario as u64);
     let trues = settled.model.t;
     let falses = settled.model.f;
     let rounds = settled.rounds;
-    let count = 2 * (contents.atoms as usize) + 1;
+    let count = literals::judged(contents.atoms);
     write_values(model, &trues, &falses, count);
     let explained = explained_lanes(query, contents.atoms, &trues, &falses);
     Judged::Verdict {

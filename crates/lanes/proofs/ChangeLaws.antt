@@ -42,5 +42,7 @@ compared-all n before after word c = record {
   same = λ l h.
       set-ext n (lane n l before) (lane n l after) (length-setOf (λ o. inLane l (getD before o 0)) n) (length-setOf (λ o. inLane l (getD after o 0)) n)
       (λ o k. has-setOf (λ o. inLane l (getD before o 0)) n o k ∙ c .same l h o k ∙ sym (has-setOf (λ o. inLane l (getD after o 0)) n o k));
-  other = λ l h e. c .other l h (λ o k. sym (has-setOf (λ o. inLane l (getD before o 0)) n o k) ∙ ap (λ s. has s o) e ∙ has-setOf (λ o. inLane l (getD after o 0)) n o k);
+  other = λ l h e.
+      c .other l h
+      (λ o k. sym (has-setOf (λ o. inLane l (getD before o 0)) n o k) ∙ ap (λ s. has s o) e ∙ has-setOf (λ o. inLane l (getD after o 0)) n o k);
 }

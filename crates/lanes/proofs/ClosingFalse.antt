@@ -9,6 +9,7 @@ use lib.Dec.{T}
 use lib.ListN.{length, getD, replicate}
 use Rattle.literals.specs.Numbering.{judged}
 use Rattle.papers.specs.Program.{Program}
+use Rattle.papers.proofs.Lists.{getD-zeros}
 use Rattle.dual.specs.Table.{dual}
 use Rattle.model.specs.Tests.{_or_}
 use Rattle.model.specs.Sets.{Set, has}
@@ -21,7 +22,7 @@ use Rattle.lanes.specs.Words.{ComplementWords, total}
 use Rattle.model.proofs.TestLaws.{or-assoc}
 use Rattle.model.proofs.SetLaws.{has-within}
 use Rattle.model.proofs.FalsityLaws.{greatest-only}
-use Rattle.lanes.proofs.LaneLaws.{lane-none, zeros, sized as lane-sized, has-lane}
+use Rattle.lanes.proofs.LaneLaws.{lane-none, sized as lane-sized, has-lane}
 
 -- ---- all passes
 
@@ -48,7 +49,7 @@ module _ (p : Program) (truth backing : List ℕ) where
     keeps = λ l h t b o y.
         let m = has-within t o y in
         let z = b .sized in
-        rw (c .at l o h (omega arith), zeros 513 o, lane-none l) tt;
+        rw (c .at l o h (omega arith), getD-zeros 513 o, lane-none l) tt;
     backed = λ e. absurd (true≢false e);
   }
 

@@ -127,7 +127,8 @@ module _ {r : Rule} {negated before after : List ℕ} {changed : Bool} (so : Rai
           → inLane l (getD after o 0) ≡ (inLane l (getD before o 0) or (eqb (r .head) o and bodyHolds (lane n l before) (lane n l negated) (r .body)))
       raised-in o = elim (ℕ-discrete o (r .head)) [
         | yes e ↦
-            rw (e, raised-head, eq-eqb (r .head) (r .head) refl, true-and (bodyHolds (lane n l before) (lane n l negated) (r .body)), ← so .holds .in-lane n literals l below)
+            let body = bodyHolds (lane n l before) (lane n l negated) (r .body) in
+            rw (e, raised-head, eq-eqb (r .head) (r .head) refl, true-and body, ← so .holds .in-lane n literals l below)
             (lane-or l (getD before (r .head) 0) (so .word))
         | no ne ↦
             rw (raised-other o ne, ne-eqb (r .head) o (λ e. ne (sym e)), false-and (bodyHolds (lane n l before) (lane n l negated) (r .body)))
@@ -145,8 +146,8 @@ module _ {r : Rule} {negated before after : List ℕ} {changed : Bool} (so : Rai
 
 -- ---- a pass
 
-module _ {rules : List Rule} {negated before : List ℕ} {count : ℕ} {words after : List ℕ} {changed more : Bool} (so : Passed rules negated before count words changed)
-    (one : Raised (getD rules count noRule) negated words after more) where
+module _ {rules : List Rule} {negated before : List ℕ} {count : ℕ} {words after : List ℕ} {changed more : Bool}
+    (so : Passed rules negated before count words changed) (one : Raised (getD rules count noRule) negated words after more) where
   -- A rule that changes its head's word,
   pub then-changed : more ≡ true → Passed rules negated before (count + 1) after true
   then-changed e = rw (e, true-or changed) at (then so one)
@@ -275,7 +276,8 @@ module _ (n : ℕ) (rules : List Rule) (negated before : List ℕ) (j : Judged n
     ruled = λ e. no-flag e;
   }
 
-  module _ {words after : List ℕ} {going changed : Bool} (so : Going n rules negated before words going) (pass : Passed rules negated words (length rules) after changed) where
+  module _ {words after : List ℕ} {going changed : Bool} (so : Going n rules negated before words going)
+      (pass : Passed rules negated words (length rules) after changed) where
     passed : Done n rules negated words (length rules) after changed
     passed = done n rules negated words j (so .laned) pass (omega arith)
 

@@ -21,7 +21,9 @@ pub laned-more : (base power digit word lane after : ℕ) → Laned base power d
     → LaneSet word lane (eqb ((base + lane) / power % 3) digit) after → Laned base power digit after (lane + 1)
 laned-more base power digit word lane after w s = record {
   below = λ l h. elim (ℕ-discrete l lane) [
-    | yes e ↦ rw e (s .there ∙ ap (λ (b : Bool). cond (eqb ((base + lane) / power % 3) digit) true b) (w .rest lane (omega arith)) ∙ settled (eqb ((base + lane) / power % 3) digit))
+    | yes e ↦
+        let is = eqb ((base + lane) / power % 3) digit in
+        rw e (s .there ∙ ap (λ (b : Bool). cond is true b) (w .rest lane (omega arith)) ∙ settled is)
     | no e ↦ s .others l e ∙ w .below l (omega arith)
   ];
   rest = λ l h. s .others l (λ e. omega arith) ∙ w .rest l (omega arith);

@@ -11,7 +11,7 @@ use lib.Seq.{take-at, getD-drop}
 use Rattle.literals.specs.Numbering.{defaultConjugate, judged}
 use Rattle.literals.proofs.Laws.{default-same-objective}
 use Rattle.papers.specs.Program.{Program, allRules}
-use Rattle.papers.specs.Field.{number, numbers, sizeOf, contentOf}
+use Rattle.papers.specs.Field.{numberIn, numbers, sizeOf, contentOf}
 use Rattle.papers.specs.Encoding.{encodeNumbers, encodeField}
 use Rattle.papers.specs.Valid.{Valid, All}
 use Rattle.papers.proofs.NumberLaws.{numbers-encoded, length-encoded}
@@ -23,20 +23,26 @@ use Rattle.dual.specs.Table.{foldsOf, hasEntry, foldField, entry, entryIfAny, e
 use Rattle.dual.specs.Encoding.{encodeFields}
 use Rattle.dual.proofs.ReadBack.{encodeFields-append}
 use Rattle.dual.proofs.EntryWriting.{entry-is}
-use Rattle.lanes.specs.FalseWords.{Below, listedIn, FoldStands, literalIn, FieldStands, bytesFrom}
+use Rattle.lanes.specs.Words.{Below}
+use Rattle.lanes.specs.FalseWords.{listedIn, FoldStands, literalIn, FieldStands, bytesFrom}
 use Rattle.model.proofs.Fields.{conjugates}
 
 -- ---- one 09 field
 
 module _ (k : ℕ) (listed rest bytes : List ℕ) (e : bytes ≡ encodeField 0x09 (encodeNumbers (k ∷ listed)) ++ rest) where
   pub fold-size : sizeOf bytes ≡ 2 + 2 * length listed
-  fold-size = ap sizeOf e ∙ size-encoded 0x09 (encodeNumbers (k ∷ listed)) rest ∙ length-encoded (k ∷ listed) ∙ (let s : 2 * suc (length listed) ≡ 2 + 2 * length listed = omega arith in s)
+  fold-size =
+      ap sizeOf e
+      ∙ size-encoded 0x09 (encodeNumbers (k ∷ listed)) rest
+      ∙ length-encoded (k ∷ listed)
+      ∙ (let s : 2 * suc (length listed) ≡ 2 + 2 * length listed = omega arith in s)
 
   pub fold-listed : listedIn bytes ≡ listed
   unfolding listedIn contentOf
   fold-listed =
       let content = encodeNumbers (k ∷ listed) in
-      let whole : take (length content) (drop 3 (encodeField 0x09 content ++ rest)) ≡ content = unfold encodeField in take-at content rest (length content) refl in
+      let whole : take (length content) (drop 3 (encodeField 0x09 content ++ rest)) ≡ content =
+      unfold encodeField in take-at content rest (length content) refl in
       let later : numbers (drop 2 content) ≡ listed = unfold encodeNumbers in numbers-encoded listed in
       rw (e, size-encoded 0x09 content rest, whole) later
 
@@ -58,7 +64,7 @@ module _ (bytes : List ℕ) (place : ℕ) where
   literal-numbered s e = let l = length-drop place bytes in omega (arith, s .numbered (tag-at ∙ e))
 
   -- An 08 field has its number after its heading; another field has none.
-  pub literal-is : getD bytes place 0 ≡ 0x08 → literalIn (drop place bytes) ≡ number (getD bytes (place + 3) 0) (getD bytes (place + 3 + 1) 0)
+  pub literal-is : getD bytes place 0 ≡ 0x08 → literalIn (drop place bytes) ≡ numberIn bytes (place + 3)
   unfolding literalIn
   literal-is e =
       let f : place + 4 ≡ place + 3 + 1 = omega arith in
@@ -118,7 +124,8 @@ module _ (p : Program) (after : List ℕ) where
     bytes-entry e =
         bytes-next
         ∙ rw (e, entry-is p o)
-        (append-assoc (encodeField 0x08 (encodeNumbers (o ∷ foldsOf p o))) (encodeFields (map (foldField (allRules p)) (foldsOf p o))) (bytesFrom p (o + 1) after))
+        (append-assoc (encodeField 0x08 (encodeNumbers (o ∷ foldsOf p o))) (encodeFields (map (foldField (allRules p)) (foldsOf p o)))
+        (bytesFrom p (o + 1) after))
 
     literal-here : hasEntry p o ≡ true → literalIn (bytesFrom p o after) ≡ o
     unfolding literalIn

@@ -25,7 +25,8 @@ use Rattle.dual.proofs.Folds.{FoldIn, folds-of-tell}
 use Rattle.model.specs.Tests.{_and_}
 use Rattle.model.specs.Falsity.{listedBy, someHolds, foldsHold}
 use Rattle.lanes.specs.Lanes.{inLane, lane}
-use Rattle.lanes.specs.FalseWords.{Below, listedIn, FoldStands, bytesFrom, EntriesAt, FoldsAt, SomeWord, FoldsWord}
+use Rattle.lanes.specs.Words.{Below}
+use Rattle.lanes.specs.FalseWords.{listedIn, FoldStands, bytesFrom, EntriesAt, FoldsAt, SomeWord, FoldsWord}
 use Rattle.model.proofs.TestLaws.{true-and, and-true, and-assoc}
 use Rattle.lanes.proofs.LaneLaws.{lane-and, lane-full}
 use Rattle.model.proofs.Fields.{conjugates, listed-dual}
@@ -47,7 +48,8 @@ module _ (p : Program) (bytes : List ℕ) (o : ℕ) (truth falses : List ℕ) wh
     unfolding foldsHold
     ended l = sym (and-true (inLane l word))
 
-    bare : encodeFields (map (foldField (allRules p)) []) ++ bytesFrom p (o + 1) (drop (length (dualOf p)) bytes) ≡ bytesFrom p (o + 1) (drop (length (dualOf p)) bytes)
+    bare : encodeFields (map (foldField (allRules p)) []) ++ bytesFrom p (o + 1) (drop (length (dualOf p)) bytes)
+        ≡ bytesFrom p (o + 1) (drop (length (dualOf p)) bytes)
     unfolding encodeFields
     bare = refl
 
@@ -122,4 +124,5 @@ module _ (p : Program) (bytes : List ℕ) (o : ℕ) (truth falses : List ℕ) wh
         held l =
             let f = fold-listed k (conjugates (allRules p) k) rest (drop place bytes) field in
             (rw f at (s .at (judged (p .atoms)) l)) below
-            ∙ ap (someHolds (lane (judged (p .atoms)) l truth) (lane (judged (p .atoms)) l falses)) (sym (listed-dual p o k (w .stand .entered) fold-in (w .stand .within)))
+            ∙ ap (someHolds (lane (judged (p .atoms)) l truth) (lane (judged (p .atoms)) l falses))
+            (sym (listed-dual p o k (w .stand .entered) fold-in (w .stand .within)))

@@ -1,37 +1,26 @@
 -- The word of a fold, as the loop over its listed literals meets them; and the field that lists them, in its bytes.
 -- Assumes nothing.
 use mathlib.Core.Path.{_≡_, sym, ap, _∙_}
-use mathlib.Core.Bool.{Bool, true, false, cond}
+use mathlib.Core.Bool.{Bool}
 use mathlib.Core.List.{List, _∷_}
 use Prim.Native.Nat.{ℕ, _+_, _-_, _*_, _/_, _≤_, _<_}
 use native.Mathlib.Omega.{arith}
-use lib.ListN.{length, getD, take, drop}
+use lib.ListN.{length, take, drop}
 use lib.Seq.{drop-drop, getD-drop}
 use lib.Bits.{bitOr}
-use Rattle.literals.specs.Numbering.{objectiveNumber, defaultNegated}
-use Rattle.papers.specs.Field.{number, numbers, sizeOf, contentOf}
+use Rattle.papers.specs.Field.{numberIn, numbers, sizeOf, contentOf}
 use Rattle.papers.specs.Valid.{All}
 use Rattle.papers.proofs.Lists.{drop-take}
 use Rattle.papers.proofs.Walking.{read-number, no-number}
 use Rattle.dual.proofs.EntryLaws.{first-of}
 use Rattle.model.specs.Tests.{_or_}
-use Rattle.model.specs.Sets.{has}
-use Rattle.model.specs.LeastSet.{literalHolds}
 use Rattle.model.specs.Falsity.{someHolds}
 use Rattle.lanes.specs.Lanes.{inLane, lane}
-use Rattle.lanes.specs.FalseWords.{Below, listedIn, SomeWord}
-use Rattle.lanes.specs.Words.{wordOf}
+use Rattle.lanes.specs.Words.{wordOf, Below}
+use Rattle.lanes.specs.FalseWords.{listedIn, SomeWord}
 use Rattle.model.proofs.TestLaws.{or-false, false-or, or-assoc}
-use Rattle.lanes.proofs.LaneLaws.{lane-or, lane-none, has-lane}
-
--- A literal's word says in each lane whether it holds.
-pub literal-lane : (n l x : ℕ) (truth falses : List ℕ) → Below n x → inLane l (wordOf x truth falses) ≡ literalHolds (lane n l truth) (lane n l falses) x
-unfolding wordOf literalHolds
-literal-lane n l x truth falses h = go (defaultNegated x) where
-  go : (b : Bool) → inLane l (cond b (getD falses (objectiveNumber x) 0) (getD truth (objectiveNumber x) 0))
-      ≡ cond b (has (lane n l falses) (objectiveNumber x)) (has (lane n l truth) (objectiveNumber x))
-  go true = sym (has-lane n l (objectiveNumber x) falses h)
-  go false = sym (has-lane n l (objectiveNumber x) truth h)
+use Rattle.lanes.proofs.LaneLaws.{lane-or, lane-none}
+use Rattle.lanes.proofs.WordLaws.{word-holds}
 
 -- ---- the loop
 
@@ -53,15 +42,15 @@ module _ (content truth falses : List ℕ) where
       at = λ n l a. sym (or-false (inLane l word)) ∙ (rw (no-number content i h) at (s .at n l a));
     }
 
-    module _ (here : i < length content / 2) {x : ℕ} (is : x ≡ number (getD content (2 * i) 0) (getD content (2 * i + 1) 0)) where
+    module _ (here : i < length content / 2) {x : ℕ} (is : x ≡ numberIn content (2 * i)) where
       one : numbers (drop (2 * i) content) ≡ x ∷ numbers (drop (2 * (i + 1)) content)
       one = read-number content i here is
 
       parted : (n : ℕ) → All (Below n) (numbers content) → Below n x × All (Below n) (numbers (drop (2 * (i + 1)) content))
       parted n a = first-of (rw one at (s .later n a))
 
-      pub some-to-below : All (Below 513) (numbers content) → x < 1026
-      some-to-below a = let h : Below 513 x = parted 513 a .0 in omega arith
+      pub some-to-below : All (Below 513) (numbers content) → Below 513 x
+      some-to-below a = parted 513 a .0
 
       pub some-to-more : SomeTo content truth falses (i + 1) (bitOr word (wordOf x truth falses))
       unfolding someHolds
@@ -71,14 +60,14 @@ module _ (content truth falses : List ℕ) where
             let rest = someHolds (lane n l truth) (lane n l falses) (numbers (drop (2 * (i + 1)) content)) in
             ap (λ (b : Bool). b or rest) (lane-or l word (wordOf x truth falses))
             ∙ or-assoc (inLane l word) (inLane l (wordOf x truth falses)) rest
-            ∙ ap (λ (b : Bool). inLane l word or (b or rest)) (literal-lane n l x truth falses (parted n a .0))
+            ∙ ap (λ (b : Bool). inLane l word or (b or rest)) (word-holds n x truth falses (parted n a .0) l)
             ∙ (rw one at (s .at n l a));
       }
 
 -- ---- the field
 
 -- Its length stands after its tag,
-pub size-at : (bytes : List ℕ) (place : ℕ) → sizeOf (drop place bytes) ≡ number (getD bytes (place + 1) 0) (getD bytes (place + 1 + 1) 0)
+pub size-at : (bytes : List ℕ) (place : ℕ) → sizeOf (drop place bytes) ≡ numberIn bytes (place + 1)
 unfolding sizeOf
 size-at bytes place = let e : place + 2 ≡ place + 1 + 1 = omega arith in rw (getD-drop place bytes 1 0, getD-drop place bytes 2 0, e)
 
@@ -90,5 +79,7 @@ listed-part bytes place start next s e =
     let size = sizeOf (drop place bytes) in
     let n : next - start ≡ size - 2 = omega arith in
     let d : drop start bytes ≡ drop 2 (drop 3 (drop place bytes)) =
-    ap (λ (k : ℕ). drop k bytes) (let q : start ≡ place + 3 + 2 = omega arith in q) ∙ sym (drop-drop 2 (place + 3) bytes) ∙ ap (drop 2) (sym (drop-drop 3 place bytes)) in
+    ap (λ (k : ℕ). drop k bytes) (let q : start ≡ place + 3 + 2 = omega arith in q)
+    ∙ sym (drop-drop 2 (place + 3) bytes)
+    ∙ ap (drop 2) (sym (drop-drop 3 place bytes)) in
     ap numbers (ap (λ (k : ℕ). take k (drop start bytes)) n ∙ ap (take (size - 2)) d ∙ sym (drop-take 2 size (drop 3 (drop place bytes))))

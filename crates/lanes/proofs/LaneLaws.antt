@@ -13,6 +13,7 @@ use lib.Dec.{eqb}
 use lib.ListN.{length, getD, set, replicate}
 use lib.Seq.{getD-set-same, getD-set-other}
 use lib.Pow.{high, low, ones-split, ones-lt, shr-shr}
+use Rattle.papers.proofs.Lists.{getD-zeros}
 use Rattle.model.specs.Tests.{_and_, _or_}
 use Rattle.model.specs.Sets.{has, complement, sameFlag}
 use Rattle.lanes.specs.Lanes.{inLane, lane}
@@ -116,12 +117,6 @@ pub lane-none : (l : ℕ) → inLane l 0 ≡ false
 unfolding inLane
 lane-none l = ap (λ (x : ℕ). eqb (x % 2) 1) (zero-div (2 ^ l))
 
--- A row of zeros.
-pub zeros : (n o : ℕ) → _≡_ {A = ℕ} (getD (replicate n 0) o 0) 0
-zeros zero o = refl
-zeros (suc n) zero = refl
-zeros (suc n) (suc o) = zeros n o
-
 -- `!x` is what x lacks of the full word.
 pub lane-not : (l x : ℕ) → l < 64 → x < 18446744073709551616 → inLane l (18446744073709551615 - x) ≡ not (inLane l x)
 unfolding inLane bit
@@ -181,7 +176,7 @@ has-lane n l o words h = has-setOf _ n o h
 
 module _ (words : List ℕ) where
   pub complement-none : ComplementWords 0 words (replicate 513 0)
-  complement-none = record { at = λ l o h k. absurd (omega arith); beyond = record { at = λ o h. zeros 513 o } }
+  complement-none = record { at = λ l o h k. absurd (omega arith); beyond = record { at = λ o h. getD-zeros 513 o } }
 
   pub complement-more : (o : ℕ) (after : List ℕ) → Laned words → o < length after → ComplementWords o words after
       → ComplementWords (o + 1) words (set after o (18446744073709551615 - getD words o 0))

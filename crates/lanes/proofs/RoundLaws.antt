@@ -62,5 +62,6 @@ backing-lane p base l trues falses truth backing h a b o k =
         → inLane l (cond t (getD truth (explicitConjugate o) 0) 0) ≡ (t and has (lane (judged (p .atoms)) l truth) (explicitConjugate o))
     go true e =
         let below = explicit-below (p .atoms) o (ltb-true o (2 * p .atoms) e) in
-        sym (has-lane (judged (p .atoms)) l (explicitConjugate o) truth (omega arith)) ∙ sym (true-and (has (lane (judged (p .atoms)) l truth) (explicitConjugate o)))
+        sym (has-lane (judged (p .atoms)) l (explicitConjugate o) truth (omega arith))
+        ∙ sym (true-and (has (lane (judged (p .atoms)) l truth) (explicitConjugate o)))
     go false e = lane-none l ∙ sym (false-and (has (lane (judged (p .atoms)) l truth) (explicitConjugate o)))

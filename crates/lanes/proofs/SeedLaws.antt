@@ -11,13 +11,15 @@ use borrow.Author.Tests.{eq-eqb, ne-eqb}
 use lib.Dec.{eqb}
 use lib.ListN.{length, getD, drop, set, replicate, length-set, length-append, length-replicate}
 use lib.Seq.{getD-set-same, getD-set-other}
-use Rattle.papers.specs.Field.{number, numbers}
+use Rattle.literals.specs.Numbering.{positive, negative, atomNumber, explicitlyNegated}
+use Rattle.papers.specs.Field.{numberIn, numbers}
 use Rattle.papers.specs.Content.{isAmong}
 use Rattle.papers.specs.Valid.{All, each, Rising, Rising.next as above}
 use Rattle.papers.proofs.Walking.{read-number, no-number}
+use Rattle.papers.proofs.Lists.{getD-zeros}
 use Rattle.model.specs.Scenarios.{digitOf}
 use Rattle.lanes.specs.Lanes.{inLane, DigitLanes}
-use Rattle.lanes.proofs.LaneLaws.{lane-none, zeros}
+use Rattle.lanes.proofs.LaneLaws.{lane-none}
 
 -- ---- one abducible more
 
@@ -39,7 +41,7 @@ digit-new (x ∷ l) a s h = go (eqb x a) h (digit-new l a (s / 3)) where
 
 -- By a value for the even literal of an atom and one for the odd one.
 abbrev pub byDigit : List ℕ → ℕ → ℕ → ℕ → ℕ → Bool
-byDigit l s even odd o = eqb (digitOf l s (o / 2)) (cond (eqb (o % 2) 1) odd even)
+byDigit l s even odd o = eqb (digitOf l s (atomNumber o)) (cond (explicitlyNegated o) odd even)
 
 -- Each lane of each word is by the digits of these abducibles.
 pub record Seeded (base even odd : ℕ) (abducibles words : List ℕ) : Type 0 where
@@ -49,42 +51,47 @@ pub record Seeded (base even odd : ℕ) (abducibles words : List ℕ) : Type 0 w
 module _ (base even odd : ℕ) where
   pub seeded-none : even < 3 → odd < 3 → Seeded base even odd [] (replicate 513 0)
   unfolding digitOf
-  seeded-none e d = record { long = length-replicate {A = ℕ} 513 0; at = λ l o h. rw (zeros 513 o) (lane-none l ∙ sym (none (eqb (o % 2) 1))) }
+  seeded-none e d = record { long = length-replicate {A = ℕ} 513 0; at = λ l o h. rw (getD-zeros 513 o) (lane-none l ∙ sym (none (explicitlyNegated o))) }
     where
       none : (b : Bool) → eqb 3 (cond b odd even) ≡ false
       none true = ne-eqb 3 odd (λ q. omega arith)
       none false = ne-eqb 3 even (λ q. omega arith)
 
-  module _ (l words : List ℕ) (w : Seeded base even odd l words) (a : ℕ) (apart : isAmong l a ≡ false) (few : 2 * a + 1 < 513)
+  module _ (l words : List ℕ) (w : Seeded base even odd l words) (a : ℕ) (apart : isAmong l a ≡ false) (few : negative a < 513)
       (first second : ℕ) (here : DigitLanes base (3 ^ length l) even first) (there : DigitLanes base (3 ^ length l) odd second) where
-    at-even : (k : ℕ) → k < 64 → inLane k (getD (set (set words (2 * a) first) (2 * a + 1) second) (2 * a) 0) ≡ byDigit (l ++ a ∷ []) (base + k) even odd (2 * a)
+    abbrev after : List ℕ
+    after = set (set words (positive a) first) (negative a) second
+
+    at-even : (k : ℕ) → k < 64 → inLane k (getD after (positive a) 0) ≡ byDigit (l ++ a ∷ []) (base + k) even odd (positive a)
     at-even k h =
-        let d : 2 * a / 2 ≡ a = omega arith in
-        let m : eqb (2 * a % 2) 1 ≡ false = ne-eqb (2 * a % 2) 1 (λ q. omega arith) in
-        let g : getD (set (set words (2 * a) first) (2 * a + 1) second) (2 * a) 0 ≡ first =
-        getD-set-other (set words (2 * a) first) (2 * a + 1) (2 * a) second 0 (λ q. omega arith) ∙ getD-set-same words (2 * a) first 0 (omega (arith, w .long)) in
+        let d : atomNumber (positive a) ≡ a = omega arith in
+        let m : explicitlyNegated (positive a) ≡ false = ne-eqb (positive a % 2) 1 (λ q. omega arith) in
+        let g : getD after (positive a) 0 ≡ first =
+        getD-set-other (set words (positive a) first) (negative a) (positive a) second 0 (λ q. omega arith)
+        ∙ getD-set-same words (positive a) first 0 (omega (arith, w .long)) in
         rw (g, d, m, digit-new l a (base + k) apart) (here .at k h)
 
-    at-odd : (k : ℕ) → k < 64 → inLane k (getD (set (set words (2 * a) first) (2 * a + 1) second) (2 * a + 1) 0) ≡ byDigit (l ++ a ∷ []) (base + k) even odd (2 * a + 1)
+    at-odd : (k : ℕ) → k < 64 → inLane k (getD after (negative a) 0) ≡ byDigit (l ++ a ∷ []) (base + k) even odd (negative a)
     at-odd k h =
-        let d : (2 * a + 1) / 2 ≡ a = omega arith in
-        let m : eqb ((2 * a + 1) % 2) 1 ≡ true = eq-eqb ((2 * a + 1) % 2) 1 (omega arith) in
-        let g : getD (set (set words (2 * a) first) (2 * a + 1) second) (2 * a + 1) 0 ≡ second =
-        getD-set-same (set words (2 * a) first) (2 * a + 1) second 0 (simp length-set (omega (arith, w .long))) in
+        let d : atomNumber (negative a) ≡ a = omega arith in
+        let m : explicitlyNegated (negative a) ≡ true = eq-eqb (negative a % 2) 1 (omega arith) in
+        let g : getD after (negative a) 0 ≡ second =
+        getD-set-same (set words (positive a) first) (negative a) second 0 (simp length-set (omega (arith, w .long))) in
         rw (g, d, m, digit-new l a (base + k) apart) (there .at k h)
 
-    elsewhere : (k o : ℕ) → k < 64 → (a ≡ o / 2 → ⊥) → inLane k (getD (set (set words (2 * a) first) (2 * a + 1) second) o 0) ≡ byDigit (l ++ a ∷ []) (base + k) even odd o
+    elsewhere : (k o : ℕ) → k < 64 → (a ≡ atomNumber o → ⊥) → inLane k (getD after o 0) ≡ byDigit (l ++ a ∷ []) (base + k) even odd o
     elsewhere k o h n =
-        let g : getD (set (set words (2 * a) first) (2 * a + 1) second) o 0 ≡ getD words o 0 =
-        getD-set-other (set words (2 * a) first) (2 * a + 1) o second 0 (λ q. n (omega arith)) ∙ getD-set-other words (2 * a) o first 0 (λ q. n (omega arith)) in
-        rw (g, digit-other l a (base + k) (o / 2) n) (w .at k o h)
+        let g : getD after o 0 ≡ getD words o 0 =
+        getD-set-other (set words (positive a) first) (negative a) o second 0 (λ q. n (omega arith))
+        ∙ getD-set-other words (positive a) o first 0 (λ q. n (omega arith)) in
+        rw (g, digit-other l a (base + k) (atomNumber o) n) (w .at k o h)
 
-    pub seeded-more : Seeded base even odd (l ++ a ∷ []) (set (set words (2 * a) first) (2 * a + 1) second)
+    pub seeded-more : Seeded base even odd (l ++ a ∷ []) after
     seeded-more = record {
       long = simp length-set (w .long);
-      at = λ k o h. elim (ℕ-discrete o (2 * a)) [
+      at = λ k o h. elim (ℕ-discrete o (positive a)) [
         | yes e ↦ rw e (at-even k h)
-        | no e ↦ elim (ℕ-discrete o (2 * a + 1)) [
+        | no e ↦ elim (ℕ-discrete o (negative a)) [
           | yes f ↦ rw f (at-odd k h)
           | no f ↦ elsewhere k o h (λ q. omega arith)
         ]
@@ -131,19 +138,20 @@ module _ (base : ℕ) (listed trues falses : List ℕ) (power i : ℕ) (w : Seed
   pub seeding-done : length listed / 2 ≤ i → w .done ≡ numbers listed
   seeding-done h = sym (w .split ∙ ap (λ (x : List ℕ). w .done ++ x) (no-number listed i h) ∙ append-nil (w .done))
 
-  module _ (here : i < length listed / 2) {a : ℕ} (is : a ≡ number (getD listed (2 * i) 0) (getD listed (2 * i + 1) 0)) where
+  module _ (here : i < length listed / 2) {a : ℕ} (is : a ≡ numberIn listed (2 * i)) where
     mid : numbers listed ≡ w .done ++ a ∷ numbers (drop (2 * (i + 1)) listed)
     mid = w .split ∙ ap (λ (x : List ℕ). w .done ++ x) (read-number listed i here is)
 
     pub seeding-below : (n : ℕ) → All (_< n) (numbers listed) → a < n
     seeding-below n all = all-there (w .done) a (numbers (drop (2 * (i + 1)) listed)) (subst (All (_< n)) mid all)
 
-    pub seeding-more : Rising 0 (numbers listed) → 2 * a + 1 < 513 → (assumed ruled : ℕ) → DigitLanes base power 1 assumed → DigitLanes base power 2 ruled
-        → Seeding base listed (set (set trues (2 * a) assumed) (2 * a + 1) ruled) (set (set falses (2 * a) ruled) (2 * a + 1) assumed) (power * 3) (i + 1)
-    seeding-more rising few assumed ruled x y =
+    pub seeding-more : Rising 0 (numbers listed) → negative a < 513 → (at opposite : ℕ) → at ≡ positive a → opposite ≡ negative a
+        → (assumed ruled : ℕ) → DigitLanes base power 1 assumed → DigitLanes base power 2 ruled
+        → Seeding base listed (set (set trues at assumed) opposite ruled) (set (set falses at ruled) opposite assumed) (power * 3) (i + 1)
+    seeding-more rising few at opposite f g assumed ruled x y =
         let apart = rising-apart 0 (w .done) a (numbers (drop (2 * (i + 1)) listed)) (subst (Rising 0) mid rising) in
         let e : power ≡ 3 ^ length (w .done) = w .raised ∙ ap (λ (k : ℕ). 3 ^ k) (sym (w .size)) in
-        record {
+        rw (f, g) record {
           done = w .done ++ a ∷ [];
           split = mid ∙ sym (append-assoc (w .done) (a ∷ []) (numbers (drop (2 * (i + 1)) listed)));
           size = simp length-append (omega (arith, w .size));

@@ -12,6 +12,7 @@ use lib.Dec.{eqb, ltb}
 use lib.ListN.{getD, replicate}
 use Rattle.literals.specs.Numbering.{judged}
 use Rattle.papers.specs.Program.{Program}
+use Rattle.papers.proofs.Lists.{getD-zeros}
 use Rattle.model.specs.Tests.{_or_}
 use Rattle.model.specs.Sets.{Set, has, empty, complement}
 use Rattle.model.specs.Iteration.{iterate}
@@ -21,7 +22,7 @@ use Rattle.lanes.specs.Words.{ComplementWords}
 use Rattle.lanes.specs.RoundLanes.{NextRound, MarkedLanes, SettledLanes, HeldLanes}
 use Rattle.model.proofs.TestLaws.{is-false}
 use Rattle.model.proofs.SetLaws.{length-empty, empty-out, set-ext}
-use Rattle.lanes.proofs.LaneLaws.{lane-or, lane-none, zeros, words-same, sized, has-lane, complement-lane}
+use Rattle.lanes.proofs.LaneLaws.{lane-or, lane-none, words-same, sized, has-lane, complement-lane}
 use Rattle.model.proofs.Rounds.{interpretation-eq, next-is, rounds-le, model-possible, model-first, model-on}
 
 module _ (p : Program) (s j : ℕ) where
@@ -48,7 +49,7 @@ module _ (p : Program) (base : ℕ) where
         (sized (judged (p .atoms)) l (replicate 513 0)) (length-empty (judged (p .atoms)))
         (λ o h.
         has-lane (judged (p .atoms)) l o (replicate 513 0) h
-        ∙ ap (inLane l) (zeros 513 o)
+        ∙ ap (inLane l) (getD-zeros 513 o)
         ∙ lane-none l
         ∙ sym (is-false (has (empty (judged (p .atoms))) o) (empty-out (judged (p .atoms)) o)))
 
@@ -103,7 +104,7 @@ module _ (p : Program) (base : ℕ) where
     pub at : (l : ℕ) → l < 64 → getD counts l 0 ≡ min j (rounds p (base + l))
 
   pub counted-none : CountedTo 0 (replicate 64 0)
-  counted-none = record { at = λ l h. zeros 64 l ∙ omega arith }
+  counted-none = record { at = λ l h. getD-zeros 64 l ∙ omega arith }
 
   pub counted-next : (j w : ℕ) (counts counts′ : List ℕ) → ((l : ℕ) → l < 64 → inLane l w ≡ ltb j (rounds p (base + l)))
       → CountedTo j counts → MarkedLanes w (j + 1) counts counts′ → CountedTo (j + 1) counts′
@@ -138,8 +139,8 @@ module _ (p : Program) (base : ℕ) where
       past l b = let q = still l b in omega arith
 
   -- P of the models is what F leaves.
-  pub held : {n : ℕ} {t possible f counts : List ℕ} → p .atoms ≡ n → SettledLanes p base t f counts → NoneBeyond (judged (p .atoms)) t
-      → NoneBeyond (judged (p .atoms)) f → ComplementWords (judged n) f possible → HeldLanes p base t possible f
+  pub held : {count : ℕ} {t possible f counts : List ℕ} → count ≡ judged (p .atoms) → SettledLanes p base t f counts → NoneBeyond (judged (p .atoms)) t
+      → NoneBeyond (judged (p .atoms)) f → ComplementWords count f possible → HeldLanes p base t possible f
   held {t = t} {possible = possible} {f = f} e s x y c = record {
     possible-in = λ l h.
         complement-lane (judged (p .atoms)) l f possible h left
@@ -151,7 +152,7 @@ module _ (p : Program) (base : ℕ) where
   }
     where
       left : ComplementWords (judged (p .atoms)) f possible
-      left = subst (λ (m : ℕ). ComplementWords (judged m) f possible) (sym e) c
+      left = subst (λ (m : ℕ). ComplementWords m f possible) e c
 
   -- What the loop over rounds knows: the interpretation of the last round, and whether it was still changing.
   pub record Settling (j : ℕ) (going : Bool) (t f counts : List ℕ) : Type 0 where
@@ -166,17 +167,17 @@ module _ (p : Program) (base : ℕ) where
   settling-start = record {
     lanes = lanes-start;
     counted = counted-none;
-    true-beyond = record { at = λ o h. zeros 513 o };
-    false-beyond = record { at = λ o h. zeros 513 o };
+    true-beyond = record { at = λ o h. getD-zeros 513 o };
+    false-beyond = record { at = λ o h. getD-zeros 513 o };
     goes = λ e. omega arith;
     rests = λ e. absurd (true≢false e);
   }
 
-  pub settling-next : (j n w v : ℕ) (trues falses t f counts t′ f′ counts′ : List ℕ) → p .atoms ≡ n → AbducibleLanes p base trues falses
-      → Settling j true t f counts → NextRound p trues falses t f t′ f′ → Changed (judged n) t t′ w → Changed (judged n) f f′ v
+  pub settling-next : (j count w v : ℕ) (trues falses t f counts t′ f′ counts′ : List ℕ) → count ≡ judged (p .atoms) → AbducibleLanes p base trues falses
+      → Settling j true t f counts → NextRound p trues falses t f t′ f′ → Changed count t t′ w → Changed count f f′ v
       → w < 2 ^ 64 → v < 2 ^ 64 → MarkedLanes (bitOr w v) (j + 1) counts counts′
       → Settling (j + 1) (not (eqb (bitOr w v) 0)) t′ f′ counts′
-  settling-next j n w v trues falses t f counts t′ f′ counts′ e a s r c d k k′ m = record {
+  settling-next j count w v trues falses t f counts t′ f′ counts′ e a s r c d k k′ m = record {
     lanes = after;
     counted = counted;
     true-beyond = r .true-beyond base a;
@@ -192,8 +193,8 @@ module _ (p : Program) (base : ℕ) where
 
       told : (l : ℕ) → l < 64 → inLane l (bitOr w v) ≡ ltb j (rounds p (base + l))
       told l b =
-          changed-lane j t f t′ f′ w v l b (s .lanes) after (subst (λ (m : ℕ). Changed (judged m) t t′ w) (sym e) c)
-          (subst (λ (m : ℕ). Changed (judged m) f f′ v) (sym e) d)
+          changed-lane j t f t′ f′ w v l b (s .lanes) after (subst (λ (m : ℕ). Changed m t t′ w) e c)
+          (subst (λ (m : ℕ). Changed m f f′ v) e d)
 
       counted : CountedTo (j + 1) counts′
       counted = counted-next j (bitOr w v) counts counts′ told (s .counted) m

@@ -3,13 +3,12 @@
 use mathlib.Core.Path.{_≡_, sym, _∙_}
 use mathlib.Core.Bool.{Bool, true, false, cond}
 use mathlib.Core.List.{List, _∷_}
-use Prim.Native.Nat.{ℕ, _+_, _*_, _/_, _%_, _≤_, _<_}
+use Prim.Native.Nat.{ℕ, _+_, _*_, _/_, _≤_, _<_}
 use native.Mathlib.Omega.{arith}
-use borrow.Author.Tests.{eq-eqb, ne-eqb}
 use lib.Bits.{bitAnd}
 use lib.ListN.{length, getD, drop}
-use Rattle.literals.specs.Numbering.{defaultNegated}
-use Rattle.papers.specs.Field.{number, numbers}
+use Rattle.literals.specs.Numbering.{objectiveNumber, defaultNegated}
+use Rattle.papers.specs.Field.{numberIn, numbers}
 use Rattle.papers.specs.Valid.{All, each}
 use Rattle.papers.proofs.Lists.{all-each}
 use Rattle.papers.proofs.Walking.{no-number, read-number}
@@ -17,26 +16,28 @@ use Rattle.model.specs.Tests.{_and_}
 use Rattle.model.specs.Sets.{has}
 use Rattle.model.specs.LeastSet.{literalHolds, bodyHolds}
 use Rattle.lanes.specs.Lanes.{inLane, lane}
-use Rattle.lanes.specs.Words.{wordOf, Literals, BodyWord}
+use Rattle.lanes.specs.Words.{wordOf, Below, Literals, BodyWord}
 use Rattle.model.proofs.TestLaws.{true-and, and-true, and-assoc}
 use Rattle.lanes.proofs.LaneLaws.{lane-and, lane-full, has-lane}
 
 -- ---- a literal
 
-pub word-negated : (l : ℕ) (set negated : List ℕ) → l % 2 ≡ 1 → getD negated (l / 2) 0 ≡ wordOf l set negated
+pub word-negated : (l o : ℕ) (set negated : List ℕ) → o ≡ objectiveNumber l → defaultNegated l ≡ true → getD negated o 0 ≡ wordOf l set negated
 unfolding wordOf
-word-negated l set negated e = rw (eq-eqb (l % 2) 1 e)
+word-negated l o set negated e h = rw (e, h)
 
-pub word-bare : (l : ℕ) (set negated : List ℕ) → (l % 2 ≡ 1 → ⊥) → getD set (l / 2) 0 ≡ wordOf l set negated
+pub word-bare : (l o : ℕ) (set negated : List ℕ) → o ≡ objectiveNumber l → defaultNegated l ≡ false → getD set o 0 ≡ wordOf l set negated
 unfolding wordOf
-word-bare l set negated e = rw (ne-eqb (l % 2) 1 e)
+word-bare l o set negated e h = rw (e, h)
 
-pub word-holds : (n x : ℕ) (set negated : List ℕ) → x < 2 * n → (l : ℕ) → inLane l (wordOf x set negated) ≡ literalHolds (lane n l set) (lane n l negated) x
+-- Its word says in each lane whether it holds.
+pub word-holds : (n x : ℕ) (set negated : List ℕ) → Below n x → (l : ℕ) → inLane l (wordOf x set negated) ≡ literalHolds (lane n l set) (lane n l negated) x
 unfolding wordOf literalHolds
 word-holds n x set negated h l = go (defaultNegated x) where
-  go : (b : Bool) → inLane l (cond b (getD negated (x / 2) 0) (getD set (x / 2) 0)) ≡ cond b (has (lane n l negated) (x / 2)) (has (lane n l set) (x / 2))
-  go true = sym (has-lane n l (x / 2) negated (omega arith))
-  go false = sym (has-lane n l (x / 2) set (omega arith))
+  go : (b : Bool) → inLane l (cond b (getD negated (objectiveNumber x) 0) (getD set (objectiveNumber x) 0))
+      ≡ cond b (has (lane n l negated) (objectiveNumber x)) (has (lane n l set) (objectiveNumber x))
+  go true = sym (has-lane n l (objectiveNumber x) negated h)
+  go false = sym (has-lane n l (objectiveNumber x) set h)
 
 -- ---- a body
 
@@ -53,7 +54,7 @@ all-first (each p rest) = p
 all-more : {P : ℕ → Type 0} {x : ℕ} {more : List ℕ} → All P (x ∷ more) → All P more
 all-more (each p rest) = rest
 
-literals-first : {n x : ℕ} {more : List ℕ} → Literals n (x ∷ more) → x < 2 * n
+literals-first : {n x : ℕ} {more : List ℕ} → Literals n (x ∷ more) → Below n x
 literals-first h = all-first (h .below)
 
 literals-more : {n x : ℕ} {more : List ℕ} → Literals n (x ∷ more) → Literals n more
@@ -61,7 +62,7 @@ literals-more h = record { below = all-more (h .below) }
 
 -- Of n objective literals, so of more.
 pub literals-of : {n m : ℕ} {body : List ℕ} → n ≤ m → Literals n body → Literals m body
-literals-of h w = record { below = all-each (λ l b. omega arith) (w .below) }
+literals-of {n} h w = record { below = all-each (λ (l : ℕ) (b : Below n l). omega arith) (w .below) }
 
 module _ (body set negated : List ℕ) where
   pub word-starts : WordTo 0 body set negated 18446744073709551615
@@ -77,11 +78,11 @@ module _ (body set negated : List ℕ) where
       in-lane = λ n h l k. sym (so-far .in-lane n h l k ∙ rw (no-number body i e) (and-true (inLane l word)));
     }
 
-    module _ (here : i < length body / 2) {x : ℕ} (is : x ≡ number (getD body (2 * i) 0) (getD body (2 * i + 1) 0)) where
+    module _ (here : i < length body / 2) {x : ℕ} (is : x ≡ numberIn body (2 * i)) where
       one : numbers (drop (2 * i) body) ≡ x ∷ numbers (drop (2 * (i + 1)) body)
       one = read-number body i here is
 
-      pub literal-below : (n : ℕ) → Literals n (numbers body) → x < 2 * n
+      pub literal-below : (n : ℕ) → Literals n (numbers body) → Below n x
       literal-below n h = literals-first (rw one at (so-far .rest n h))
 
       pub word-goes-on : WordTo (i + 1) body set negated (bitAnd word (wordOf x set negated))

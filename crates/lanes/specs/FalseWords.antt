@@ -5,10 +5,10 @@ use mathlib.Core.List.{List, [], _++_, map}
 use Prim.Native.Nat.{ℕ, _+_, _-_, _≤_, _<_}
 use lib.Dec.{T, eqb}
 use lib.ListN.{length, getD, take, drop}
-use Rattle.literals.specs.Numbering.{objectiveNumber, judged}
+use Rattle.literals.specs.Numbering.{judged}
 use Rattle.papers.specs.Program.{Program, allRules}
 use Rattle.papers.specs.Valid.{Valid, All}
-use Rattle.papers.specs.Field.{number, numbers, sizeOf, contentOf}
+use Rattle.papers.specs.Field.{numberIn, numbers, sizeOf, contentOf}
 use Rattle.papers.specs.Encoding.{encodeField}
 use Rattle.dual.specs.Table.{foldsOf, hasEntry, foldField, entriesFrom, dual}
 use Rattle.dual.specs.Encoding.{encodeFields}
@@ -17,13 +17,9 @@ use Rattle.model.specs.Tests.{_or_}
 use Rattle.model.specs.Sets.{Set, has}
 use Rattle.model.specs.Falsity.{someHolds, foldsHold, entryHolds}
 use Rattle.lanes.specs.Lanes.{inLane, lane, NoneBeyond}
-use Rattle.lanes.specs.Words.{total}
+use Rattle.lanes.specs.Words.{Below, total}
 
 -- ---- the bytes
-
--- The literal's objective literal is one of the first n.
-abbrev pub Below : ℕ → ℕ → Type 0
-Below n x = objectiveNumber x < n
 
 -- The literals that the 09 field at the start of these bytes lists, after its fold number.
 unfoldable pub listedIn : List ℕ → List ℕ
@@ -37,7 +33,7 @@ pub record FoldStands (bytes : List ℕ) : Type 0 where
 
 -- The number of the 08 field at the start of these bytes; 65536 where another field stands there.
 unfoldable pub literalIn : List ℕ → ℕ
-literalIn bytes = cond (eqb (getD bytes 0 0) 0x08) (number (getD bytes 3 0) (getD bytes 4 0)) 65536
+literalIn bytes = cond (eqb (getD bytes 0 0) 0x08) (numberIn bytes 3) 65536
 
 -- A field stands there, and an 08 field with its number.
 pub record FieldStands (bytes : List ℕ) : Type 0 where

@@ -2,7 +2,7 @@
 use mathlib.Core.Path.{_≡_}
 use mathlib.Core.Bool.{not, cond}
 use mathlib.Core.List.{List, [], _∷_}
-use Prim.Native.Nat.{ℕ, _+_, _*_, _<_}
+use Prim.Native.Nat.{ℕ, _+_, _<_}
 use lib.ListN.{length, getD}
 use Rattle.literals.specs.Numbering.{objectiveNumber, defaultNegated}
 use Rattle.papers.specs.Valid.{All}
@@ -13,9 +13,13 @@ use Rattle.lanes.specs.Lanes.{inLane, lane, NoneBeyond}
 unfoldable pub wordOf : ℕ → List ℕ → List ℕ → ℕ
 wordOf l set negated = cond (defaultNegated l) (getD negated (objectiveNumber l) 0) (getD set (objectiveNumber l) 0)
 
--- Each literal is one of n objective literals or its default negation.
+-- The literal's objective literal is one of the first n.
+abbrev pub Below : ℕ → ℕ → Type 0
+Below n l = objectiveNumber l < n
+
+-- That of each literal is.
 pub record Literals (n : ℕ) (body : List ℕ) : Type 0 where
-  pub below : All (_< 2 * n) body
+  pub below : All (Below n) body
 
 -- A body's word: the lanes in which it holds, of however many objective literals it speaks.
 pub record BodyWord (body set negated : List ℕ) (word : ℕ) : Type 0 where

@@ -6,28 +6,29 @@ ghost use Rattle.lanes.specs.Lanes.{backingWord, BackingWords};
 use literals::Conjugate;
 use literals::Objective;
 
-fn backing_word(trues: &[u64; 513], falses: &[u64; 513], atoms: u16, o: usize) -> u64
-    requires { ⌜ (o < 513) × (atoms ≤ 256) ⌝ }
-    ensures { λ r. ⌜ r ≡ backingWord atoms (now (trues .entry)) (now (falses .entry)) o ⌝ }
+fn backing_word(trues: &[u64; 513], falses: &[u64; 513], atoms: u16, o: Objective) -> u64
+    requires { ⌜ (o .0 < 513) × (atoms ≤ 256) ⌝ }
+    ensures { λ r. ⌜ r ≡ backingWord atoms (now (trues .entry)) (now (falses .entry)) (o .0) ⌝ }
 {
-    let conjugate = literals::explicit_conjugate(Objective(o as u32), atoms);
+    let at = o.0;
+    let conjugate = literals::explicit_conjugate(o, atoms);
     let Conjugate::Is(other) = conjugate else {
-        return falses[o];
+        return falses[at];
     };
-    let at = other.0 as usize;
-    trues[at] | falses[o]
+    let opposite = other.0;
+    trues[opposite] | falses[at]
 }
 
 pub(crate) fn backing_words(trues: &[u64; 513], falses: &[u64; 513], atoms: u16) -> [u64; 513]
     requires { ⌜ atoms ≤ 256 ⌝ }
     ensures { λ r. ⌜ BackingWords atoms (now (trues .entry)) (now (falses .entry)) r ⌝ }
 {
-    let count = 2 * (atoms as usize) + 1;
+    let count = literals::judged(atoms);
     let mut words = [0u64; 513];
-    let mut o: usize = 0;
-    while o < count {
-        words[o] = backing_word(trues, falses, atoms, o);
-        o += 1;
+    let mut i: usize = 0;
+    while i < count {
+        words[i] = backing_word(trues, falses, atoms, Objective(i));
+        i += 1;
     }
     words
 }

@@ -5,7 +5,7 @@ ghost use Rattle.papers.specs.declared.FileRead.{FileRead};
 ghost use Rattle.papers.specs.Reading.{readFile, programIn};
 ghost use Rattle.papers.specs.Answers.{fileAnswer};
 ghost use Rattle.lanes.specs.Lanes.{LaneSet, DigitLanes, AbducibleLanes};
-use fields::field::number_at;
+use fields::numbered::atom_at;
 use papers::Contents;
 
 // How many scenarios there are.
@@ -63,13 +63,17 @@ pub(crate) fn abducible_lanes(file: &[u8], contents: Contents, base: u64) -> Abd
     let mut power: u64 = 1;
     let mut i: usize = 0;
     while i < count {
-        let o = 2 * number_at(listed, 2 * i);
+        let atom = atom_at(listed, 2 * i);
         let assumed = digit_lanes(base, power, 1);
         let ruled = digit_lanes(base, power, 2);
-        trues[o] = assumed;
-        trues[o + 1] = ruled;
-        falses[o] = ruled;
-        falses[o + 1] = assumed;
+        let itself = literals::positive(atom);
+        let negation = literals::negative(atom);
+        let at = itself.0;
+        let opposite = negation.0;
+        trues[at] = assumed;
+        trues[opposite] = ruled;
+        falses[at] = ruled;
+        falses[opposite] = assumed;
         power = power * 3;
         i += 1;
     }

@@ -8,11 +8,15 @@ ghost use Rattle.papers.specs.Valid.{All};
 ghost use Rattle.papers.specs.Field.{numbers, sizeOf};
 ghost use Rattle.papers.specs.Reading.{programIn};
 ghost use Rattle.dual.specs.Table.{foldsOf};
-ghost use Rattle.lanes.specs.FalseWords.{Below, listedIn, FoldStands, literalIn, FieldStands, DualStarts, EntriesAt, FoldsAt};
+ghost use Rattle.lanes.specs.Words.{Below};
+ghost use Rattle.lanes.specs.FalseWords.{listedIn, FoldStands, literalIn, FieldStands, DualStarts, EntriesAt, FoldsAt};
 ghost use Rattle.lanes.specs.FalseWords.{SomeWord, FoldsWord, EntryWord, FalseWords, DroppedTo};
 use crate::words::complement_words;
 use crate::words::word_of;
 use fields::field::number_at;
+use fields::numbered::literal_at;
+use fields::numbered::objective_at;
+use literals::Objective;
 
 // The lanes in which one of a fold's listed literals holds.
 fn fold_word(content: &[u8], truth: &[u64; 513], falses: &[u64; 513]) -> u64
@@ -23,7 +27,7 @@ fn fold_word(content: &[u8], truth: &[u64; 513], falses: &[u64; 513]) -> u64
     let mut word: u64 = 0;
     let mut i: usize = 0;
     while i < count {
-        let x = number_at(content, 2 * i);
+        let x = literal_at(content, 2 * i);
         word = word | word_of(x, truth, falses);
         i += 1;
     }
@@ -39,7 +43,8 @@ struct WordRead {
 // The same from the 09 field at a place.
 fn fold_at(dual: &[u8], place: usize, truth: &[u64; 513], falses: &[u64; 513]) -> WordRead
     requires { ⌜ FoldStands (drop place (now dual)) ⌝ }
-    ensures { λ r. ⌜ SomeWord (listedIn (drop place (now (dual .entry)))) (now (truth .entry)) (now (falses .entry)) (r .word) × (r .next ≡ place + 3 + sizeOf (drop place (now (dual .entry)))) ⌝ }
+    ensures { λ r. ⌜ SomeWord (listedIn (drop place (now (dual .entry)))) (now (truth .entry)) (now (falses .entry)) (r .word)
+        × (r .next ≡ place + 3 + sizeOf (drop place (now (dual .entry)))) ⌝ }
 {
     let start = place + 5;
     let next = place + 3 + number_at(dual, place + 1);
@@ -51,14 +56,16 @@ fn fold_at(dual: &[u8], place: usize, truth: &[u64; 513], falses: &[u64; 513]) -
 fn entry_word(
     file: &[u8],
     dual: &[u8],
-    o: usize,
+    o: Objective,
     place: usize,
     folds: usize,
     truth: &[u64; 513],
     falses: &[u64; 513],
 ) -> WordRead
-    requires { ⌜ FoldsAt (programIn (now file)) (now dual) o 0 place × (folds ≡ length (foldsOf (programIn (now file)) o)) ⌝ }
-    ensures { λ r. ⌜ FoldsWord (programIn (now (file .entry))) (foldsOf (programIn (now (file .entry))) o) (now (truth .entry)) (now (falses .entry)) (r .word) × EntriesAt (programIn (now (file .entry))) (now (dual .entry)) (o + 1) (r .next) ⌝ }
+    requires { ⌜ FoldsAt (programIn (now file)) (now dual) (o .0) 0 place × (folds ≡ length (foldsOf (programIn (now file)) (o .0))) ⌝ }
+    ensures { λ r. ⌜ FoldsWord (programIn (now (file .entry))) (foldsOf (programIn (now (file .entry))) (o .0)) (now (truth .entry))
+        (now (falses .entry)) (r .word)
+        × EntriesAt (programIn (now (file .entry))) (now (dual .entry)) (o .0 + 1) (r .next) ⌝ }
 {
     let mut word: u64 = 18446744073709551615;
     let mut next = place;
@@ -73,14 +80,14 @@ fn entry_word(
 }
 
 // The objective literal whose 08 field stands at a place; 65536 where another field stands there.
-fn literal_at(dual: &[u8], place: usize) -> usize
+fn entry_literal(dual: &[u8], place: usize) -> Objective
     requires { ⌜ FieldStands (drop place (now dual)) ⌝ }
-    ensures { λ r. ⌜ r ≡ literalIn (drop place (now (dual .entry))) ⌝ }
+    ensures { λ r. ⌜ r .0 ≡ literalIn (drop place (now (dual .entry))) ⌝ }
 {
     if dual[place] == 0x08 {
-        number_at(dual, place + 3)
+        objective_at(dual, place + 3)
     } else {
-        65536
+        Objective(65536)
     }
 }
 
@@ -88,15 +95,17 @@ fn literal_at(dual: &[u8], place: usize) -> usize
 fn any_entry_word(
     file: &[u8],
     dual: &[u8],
-    o: usize,
+    o: Objective,
     place: usize,
     truth: &[u64; 513],
     falses: &[u64; 513],
 ) -> WordRead
-    requires { ⌜ EntriesAt (programIn (now file)) (now dual) o place × (o < judged ((programIn (now file)) .atoms)) ⌝ }
-    ensures { λ r. ⌜ EntryWord (programIn (now (file .entry))) o (now (truth .entry)) (now (falses .entry)) (r .word) × EntriesAt (programIn (now (file .entry))) (now (dual .entry)) (o + 1) (r .next) ⌝ }
+    requires { ⌜ EntriesAt (programIn (now file)) (now dual) (o .0) place × (o .0 < judged ((programIn (now file)) .atoms)) ⌝ }
+    ensures { λ r. ⌜ EntryWord (programIn (now (file .entry))) (o .0) (now (truth .entry)) (now (falses .entry)) (r .word)
+        × EntriesAt (programIn (now (file .entry))) (now (dual .entry)) (o .0 + 1) (r .next) ⌝ }
 {
-    if literal_at(dual, place) != o {
+    let found = entry_literal(dual, place);
+    if found.0 != o.0 {
         return WordRead {
             word: 0,
             next: place,
@@ -115,22 +124,24 @@ fn drop_pass(
     backing: &[u64; 513],
     falses: &mut [u64; 513],
 ) -> bool
-    requires { ⌜ DualStarts (programIn (now file)) (now dual) × ((count ≡ judged ((programIn (now file)) .atoms)) × (length (now falses) ≡ 513)) ⌝ }
-    ensures { λ r. ⌜ DroppedTo count (programIn (now (file .entry))) (now (truth .entry)) (now (backing .entry)) (now (falses .entry)) (now (falses .exit)) r ⌝ }
+    requires { ⌜ DualStarts (programIn (now file)) (now dual)
+        × ((count ≡ judged ((programIn (now file)) .atoms)) × (length (now falses) ≡ 513)) ⌝ }
+    ensures { λ r. ⌜ DroppedTo count (programIn (now (file .entry))) (now (truth .entry)) (now (backing .entry)) (now (falses .entry))
+        (now (falses .exit)) r ⌝ }
 {
     let mut changed = false;
     let mut place: usize = 0;
-    let mut o: usize = 0;
-    while o < count {
-        let read = any_entry_word(file, dual, o, place, truth, falses);
-        let old = falses[o];
-        let new = old & (backing[o] | read.word);
-        falses[o] = new;
+    let mut i: usize = 0;
+    while i < count {
+        let read = any_entry_word(file, dual, Objective(i), place, truth, falses);
+        let old = falses[i];
+        let new = old & (backing[i] | read.word);
+        falses[i] = new;
         if new != old {
             changed = true;
         }
         place = read.next;
-        o += 1;
+        i += 1;
     }
     changed
 }

@@ -46,7 +46,7 @@ pub(crate) fn next_round<'a>(
     let mut t = *trues;
     close_true(file, contents, places, &mut t, failed);
     let backing = backing_words(held, falses, contents.atoms);
-    let count = 2 * (contents.atoms as usize) + 1;
+    let count = literals::judged(contents.atoms);
     let mut f = [0u64; 513];
     close_false(file, dual, count, held, &backing, &mut f);
     Pair { t, f }
@@ -94,7 +94,7 @@ pub fn settle(
     let seeds = abducible_lanes(file, contents, base);
     let trues = seeds.trues;
     let falses = seeds.falses;
-    let count = 2 * (contents.atoms as usize) + 1;
+    let count = literals::judged(contents.atoms);
     let mut model = Model {
         t: [0; 513],
         p: [0; 513],

@@ -7,6 +7,7 @@ ghost use Rattle.papers.specs.Places.{Walked};
 ghost use Rattle.lanes.specs.Closing.{Raised, Passed, ClosedTrue};
 use crate::words::body_word;
 use crate::words::lent_known;
+use literals::Fold;
 use papers::Contents;
 
 // One rule, and whether it changed its head's word.
@@ -16,17 +17,18 @@ fn close_rule(
     places: &[usize; 1280],
     truth: &mut [u64; 513],
     falses: &[u64; 513],
-    fold: usize,
+    fold: Fold,
 ) -> bool
-    requires { ⌜ Walked (now file) contents (now places) × (fold < length (allRules (programIn (now file)))) ⌝ }
-    ensures { λ r. ⌜ Raised (ruleAt (programIn (now (file .entry))) fold) (now (falses .entry)) (now (truth .entry)) (now (truth .exit)) r ⌝ }
+    requires { ⌜ Walked (now file) contents (now places) × (fold .0 < length (allRules (programIn (now file)))) ⌝ }
+    ensures { λ r. ⌜ Raised (ruleAt (programIn (now (file .entry))) (fold .0)) (now (falses .entry)) (now (truth .entry)) (now (truth .exit)) r ⌝ }
 {
     let head = folds::head_of(file, contents, places, fold);
     let body = folds::body_of(file, contents, places, fold);
     let word = body_word(body, truth, falses);
-    let old = truth[head];
+    let at = head.0;
+    let old = truth[at];
     let new = old | word;
-    truth[head] = new;
+    truth[at] = new;
     new != old
 }
 
@@ -39,18 +41,19 @@ fn close_pass(
     falses: &[u64; 513],
 ) -> bool
     requires { ⌜ Walked (now file) contents (now places) ⌝ }
-    ensures { λ r. ⌜ Passed (allRules (programIn (now (file .entry)))) (now (falses .entry)) (now (truth .entry)) (length (allRules (programIn (now (file .entry))))) (now (truth .exit)) r ⌝ }
+    ensures { λ r. ⌜ Passed (allRules (programIn (now (file .entry)))) (now (falses .entry)) (now (truth .entry))
+        (length (allRules (programIn (now (file .entry))))) (now (truth .exit)) r ⌝ }
 {
     let rules = contents.rules;
     let integrity = contents.integrity;
     let count = rules.count + integrity.count;
     let mut changed = false;
-    let mut fold: usize = 0;
-    while fold < count {
-        if close_rule(file, contents, places, truth, falses, fold) {
+    let mut i: usize = 0;
+    while i < count {
+        if close_rule(file, contents, places, truth, falses, Fold(i)) {
             changed = true;
         }
-        fold += 1;
+        i += 1;
     }
     changed
 }

@@ -16,9 +16,10 @@ pub fn explained_lanes(query: &[u8], atoms: u16, trues: &[u64; 513], falses: &[u
     ensures { λ r. ⌜ ExplainedWord atoms (numbers (now (query .entry))) (now (trues .entry)) (now (falses .entry)) r ⌝ }
 {
     lent_known(trues);
-    let falsum = 2 * (atoms as usize);
+    let falsum = literals::falsum(atoms);
+    let at = falsum.0;
     let holding = body_word(query, trues, falses);
-    !trues[falsum] & falses[falsum] & holding
+    !trues[at] & falses[at] & holding
 }
 
 // What 64 scenarios come to: which are explanations, and the round count of each.

@@ -1,17 +1,23 @@
 // Sixty-four scenarios at once: bit l of word o says whether o is in the set of lane l.
 ghost use mathlib.Core.Path.{_≡_};
-ghost use Prim.Native.Nat.{_<_, _≤_};
+ghost use Prim.Native.Nat.{_≤_};
 ghost use Rattle.papers.specs.Field.{numbers};
-ghost use Rattle.lanes.specs.Words.{wordOf, Literals, BodyWord, ComplementWords, Laned};
-use fields::field::number_at;
+ghost use Rattle.lanes.specs.Words.{wordOf, Below, Literals, BodyWord, ComplementWords, Laned};
+use fields::numbered::literal_at;
+use literals::Literal;
 
 // The lanes in which a literal holds.
-pub(crate) fn word_of(l: usize, set: &[u64; 513], negated: &[u64; 513]) -> u64
-    requires { ⌜ l < 1026 ⌝ }
-    ensures { λ r. ⌜ r ≡ wordOf l (now (set .entry)) (now (negated .entry)) ⌝ }
+pub(crate) fn word_of(l: Literal, set: &[u64; 513], negated: &[u64; 513]) -> u64
+    requires { ⌜ Below 513 (l .0) ⌝ }
+    ensures { λ r. ⌜ r ≡ wordOf (l .0) (now (set .entry)) (now (negated .entry)) ⌝ }
 {
-    let o = l / 2;
-    if l % 2 == 1 { negated[o] } else { set[o] }
+    let o = literals::objective_of(l);
+    let at = o.0;
+    if literals::is_default_negated(l) {
+        negated[at]
+    } else {
+        set[at]
+    }
 }
 
 // The lanes in which each literal of a body holds.
@@ -23,7 +29,7 @@ pub(crate) fn body_word(body: &[u8], set: &[u64; 513], negated: &[u64; 513]) -> 
     let mut word: u64 = 18446744073709551615;
     let mut i: usize = 0;
     while i < count {
-        let l = number_at(body, 2 * i);
+        let l = literal_at(body, 2 * i);
         word = word & word_of(l, set, negated);
         i += 1;
     }

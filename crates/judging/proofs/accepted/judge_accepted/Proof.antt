@@ -14,9 +14,9 @@ use Rattle.judging.proofs.JudgingLaws.{first-verdict, first-filled}
 use Rattle.judging.proofs.accepted.judge_accepted.Statement.{statement}
 use Rattle.judging.proofs.accepted.judge_accepted.Tie as tie
 
--- ---- once the lanes are settled and the atoms are known
+-- ---- once the lanes are settled and N is known
 
-module _ (c : tie.After-struct-known) where
+module _ (c : tie.After-judged) where
   abbrev settled : tie.After-settle
   settled = c .before .before .before .before
 
@@ -32,22 +32,14 @@ module _ (c : tie.After-struct-known) where
 settle-requires : tie.Need-settle-requires
 settle-requires c κs = let q = c .before .before .before .before .pre .0 in (q .walked, (q .starts, search needs))
 
-cast-count : tie.Need-cast-count
-cast-count c = search needs
-
-mul-count : tie.Need-mul-count
-mul-count c = search needs
-
-add-count : tie.Need-add-count
-add-count c = search needs
+judged-requires : tie.Need-judged-requires
+judged-requires c κs = search needs
 
 write-values-requires : tie.Need-write-values-requires
 write-values-requires c κs =
     let known = c .before .before .before in
-    let f = few known in
-    let e = same known in
-    let room = start known .pre .1 in
-    (omega arith, omega arith)
+    let n = known .judged .ensures in
+    (omega (arith, few known), omega (arith, same known, start known .pre .1))
 
 explained-lanes-requires : tie.Need-explained-lanes-requires
 explained-lanes-requires c κs =
@@ -55,8 +47,8 @@ explained-lanes-requires c κs =
     let known = written .before .before .before .before in
     (few known, rw (same known) at (query-listed (start known .pre .0 .asked)))
 
-array-read-t27 : tie.Need-array-read-t27
-array-read-t27 c = search needs
+array-read-t25 : tie.Need-array-read-t25
+array-read-t25 c = search needs
 
 same-length : tie.Need-same-length
 same-length c = search needs
@@ -73,9 +65,10 @@ returns c =
     let falses = s .result .model .f in
     let explained = c .explained-lanes .result in
     let e = subst (λ (n : ℕ). ExplainedWord n query trues falses explained) (sym (same known)) (c .explained-lanes .ensures) in
-    let v = verdict-lanes p (a .scenario) trues falses (s .result .rounds) (s .ensures .0) query explained (start known .pre .0 .asked) e in (
+    let v = verdict-lanes p (a .scenario) trues falses (s .result .rounds) (s .ensures .0) query explained (start known .pre .0 .asked) e in
+    let bytes = rw (known .judged .ensures) at (written .write-values .ensures) in (
       first-verdict p query (a .scenario) explained (s .result .rounds) v,
-      first-filled p (a .scenario) (a .contents .atoms) trues falses (s .result .rounds) (now (a .model)) _ (same known) (s .ensures .0) (written .write-values .ensures),
+      first-filled p (a .scenario) (a .contents .atoms) trues falses (s .result .rounds) (now (a .model)) _ (same known) (s .ensures .0) bytes,
     )
 
 pub judge-accepted-spec : {M : Type 1} → statement M
@@ -83,11 +76,9 @@ judge-accepted-spec =
     tie.close
     (tie.spec
     settle-requires
-    cast-count
-    mul-count
-    add-count
+    judged-requires
     write-values-requires
     explained-lanes-requires
-    array-read-t27
+    array-read-t25
     same-length
     returns)

@@ -46,7 +46,8 @@ loop-again : tie.Need-loop-again Inv-loop μ-loop
 loop-again c =
     let a = c .before .before .before .before .before .before .args in
     let l = c .before .before .before .before .loop in
-    (omega arith, valued-more (now (a .trues)) (now (a .falses)) (now (a .model)) (l .o) (l .model) (c .value-byte .result) (omega arith) (l .inv .1) (c .value-byte .ensures))
+    let byte = c .value-byte in
+    (omega arith, valued-more (now (a .trues)) (now (a .falses)) (now (a .model)) (l .o) (l .model) (byte .result) (omega arith) (l .inv .1) (byte .ensures))
 
 same-length : tie.Need-same-length Inv-loop μ-loop
 same-length c = c .before .loop .inv .1 .long
@@ -56,7 +57,8 @@ returns c =
     let a = c .before .before .before .args in
     let l = c .before .loop in
     let e : l .o ≡ a .count = omega arith in
-    valued-all (now (a .trues)) (now (a .falses)) (now (a .model)) (a .count) (l .model) (c .before .before .before .pre .1) (subst (λ x. Valued (now (a .trues)) (now (a .falses)) (now (a .model)) x (l .model)) e (l .inv .1))
+    valued-all (now (a .trues)) (now (a .falses)) (now (a .model)) (a .count) (l .model) (c .before .before .before .pre .1)
+    (subst (λ x. Valued (now (a .trues)) (now (a .falses)) (now (a .model)) x (l .model)) e (l .inv .1))
 
 pub write-values-spec : {M : Type 1} → statement M
 write-values-spec =

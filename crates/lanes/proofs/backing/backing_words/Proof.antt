@@ -12,40 +12,52 @@ use Rattle.lanes.proofs.backing.backing_words.Statement.{statement}
 use Rattle.lanes.proofs.backing.backing_words.Tie as tie
 
 abbrev Inv-loop : tie.InvT-loop
-Inv-loop trues falses atoms count words₀ o₀ words o = (o ≤ count) × ((length words ≡ 513) × ((j : ℕ) → j < o → getD words j 0 ≡ backingWord atoms trues falses j))
+Inv-loop trues falses atoms count words₀ i₀ words i =
+    (i ≤ count) × ((length words ≡ 513) × ((j : ℕ) → j < i → getD words j 0 ≡ backingWord atoms trues falses j))
 
 abbrev μ-loop : tie.MeasureT-loop
-μ-loop trues falses atoms count words₀ o₀ words o = count - o
+μ-loop trues falses atoms count words₀ i₀ words i = count - i
 
-mul-count : tie.Need-mul-count Inv-loop μ-loop
-mul-count c = search needs
+-- There is a word for each judged literal.
+few : (c : tie.After-judged Inv-loop μ-loop) → c .judged .result ≤ 513
+few c = omega (arith, c .judged .ensures, c .before .pre)
 
-add-count : tie.Need-add-count Inv-loop μ-loop
-add-count c = search needs
+judged-requires : tie.Need-judged-requires Inv-loop μ-loop
+judged-requires c κs = search needs
 
 loop-holds : tie.Need-loop-holds Inv-loop μ-loop
 loop-holds c = (omega arith, (length-replicate {A = ℕ} 513 0, λ j h. absurd (omega arith)))
 
 backing-word-requires : tie.Need-backing-word-requires Inv-loop μ-loop
-backing-word-requires c κs = (omega arith, c .before .before .pre)
+backing-word-requires c κs = (omega (arith, few (c .before .before)), c .before .before .before .pre)
 
 mul-words : tie.Need-mul-words Inv-loop μ-loop
-mul-words c = search needs
+mul-words c = omega (arith, few (c .before .before .before))
 
 array-write-words : tie.Need-array-write-words Inv-loop μ-loop
-array-write-words c = search needs
+array-write-words c = omega (arith, few (c .before .before .before), c .before .before .loop .inv .1 .0)
 
-add-o : tie.Need-add-o Inv-loop μ-loop
-add-o c = search needs
+add-i : tie.Need-add-i Inv-loop μ-loop
+add-i c = omega (arith, few (c .before .before .before))
 
 loop-less : tie.Need-loop-less Inv-loop μ-loop
 loop-less c = search needs
 
 loop-again : tie.Need-loop-again Inv-loop μ-loop
-loop-again c = let a = c .before .before .before .args in (omega arith, (simp length-set (c .before .before .loop .inv .1 .0), set-more (c .before .before .loop .words) (c .before .before .loop .o) (c .backing-word .result) (backingWord (a .atoms) (now (a .trues)) (now (a .falses))) (omega (arith, c .before .before .loop .inv .1 .0, c .before .before .before .pre)) (c .backing-word .ensures) (c .before .before .loop .inv .1 .1)))
+loop-again c =
+    let a = c .before .before .before .before .args in
+    let l = c .before .before .loop in
+    let within : l .i < length (l .words) = omega (arith, few (c .before .before .before), l .inv .1 .0) in
+    let new = c .backing-word in (
+      omega arith,
+      (
+        simp length-set (l .inv .1 .0),
+        set-more (l .words) (l .i) (new .result) (backingWord (a .atoms) (now (a .trues)) (now (a .falses))) within (new .ensures) (l .inv .1 .1),
+      ),
+    )
 
 returns : tie.Need-returns Inv-loop μ-loop
-returns c = record { at = λ j h. c .before .loop .inv .1 .1 j (omega arith) }
+returns c = let e = c .before .before .judged .ensures in record { at = λ j h. c .before .loop .inv .1 .1 j (omega arith) }
 
 pub backing-words-spec : {M : Type 1} → statement M
 backing-words-spec =
@@ -53,13 +65,12 @@ backing-words-spec =
     (tie.spec
     Inv-loop
     μ-loop
-    mul-count
-    add-count
+    judged-requires
     loop-holds
     backing-word-requires
     mul-words
     array-write-words
-    add-o
+    add-i
     loop-less
     loop-again
     returns)

@@ -37,10 +37,17 @@ loop-less : tie.Need-loop-less Inv-loop μ-loop
 loop-less c = search needs
 
 loop-again : tie.Need-loop-again Inv-loop μ-loop
-loop-again c = let a = c .before .before .before .before .args in (omega arith, compared-more (now (a .before)) (now (a .after)) (c .before .before .before .loop .word) (c .before .before .before .loop .o) (c .before .before .before .loop .inv .1))
+loop-again c =
+    let a = c .before .before .before .before .args in
+    let l = c .before .before .before .loop in
+    (omega arith, compared-more (now (a .before)) (now (a .after)) (l .word) (l .o) (l .inv .1))
 
 returns : tie.Need-returns Inv-loop μ-loop
-returns c = let a = c .before .before .args in let e : c .before .loop .o ≡ a .count = omega arith in compared-all (a .count) (now (a .before)) (now (a .after)) (c .before .loop .word) (subst (Compared (now (a .before)) (now (a .after)) (c .before .loop .word)) e (c .before .loop .inv .1))
+returns c =
+    let a = c .before .before .args in
+    let l = c .before .loop in
+    let e : l .o ≡ a .count = omega arith in
+    compared-all (a .count) (now (a .before)) (now (a .after)) (l .word) (subst (Compared (now (a .before)) (now (a .after)) (l .word)) e (l .inv .1))
 
 pub changed-lanes-spec : {M : Type 1} → statement M
 changed-lanes-spec =

@@ -1,5 +1,6 @@
 -- `lanes::digits::abducible_lanes` meets its contract. The loop's invariant: the abducibles behind have their words.
 -- Assumes nothing.
+use borrow.Author.Needs.{needs}
 use mathlib.Core.Path.{_≡_, ap, _∙_}
 use mathlib.Core.List.{List}
 use Prim.Native.Nat.{ℕ, _+_, _-_, _*_, _^_, _≤_, _<_}
@@ -8,8 +9,11 @@ use native.Mathlib.Omega.{arith}
 use denote.Ref.{now}
 use lib.ListN.{length, take, drop, length-drop}
 use lib.Seq.{length-take-le}
+use Rattle.literals.specs.Numbering.{negative}
 use Rattle.papers.specs.declared.Contents.{Contents}
 use Rattle.papers.specs.declared.FileRead.the-variants.{Accepted}
+use Rattle.papers.specs.Program.{Program}
+use Rattle.papers.specs.Valid.{Valid}
 use Rattle.papers.specs.Field.{numbers}
 use Rattle.papers.specs.Reading.{readFile, programIn}
 use Rattle.papers.specs.Answers.{fileAnswer}
@@ -25,15 +29,20 @@ use Rattle.lanes.proofs.digits.abducible_lanes.Tie as tie
 abbrev part : List ℕ → Contents → List ℕ
 part file contents = take (12 + 2 * contents .abducibles - 12) (drop 12 file)
 
-listed-is : (file : List ℕ) (contents : Contents) (answer : fileAnswer (readFile file) ≡ Accepted contents) → Bytes file
-    → (numbers (part file contents) ≡ (programIn file) .abducibles) × ((length (part file contents) ≡ 2 * contents .abducibles) × (contents .abducibles ≤ 16))
+-- It lists the program's abducibles.
+record Listed (file : List ℕ) (contents : Contents) : Type 0 where
+  numbered : numbers (part file contents) ≡ (programIn file) .abducibles
+  long : length (part file contents) ≡ 2 * contents .abducibles
+  few : contents .abducibles ≤ 16
+
+listed-is : (file : List ℕ) (contents : Contents) → fileAnswer (readFile file) ≡ Accepted contents → Bytes file → Listed file contents
 listed-is file contents answer b =
     let t = abducibles-there file contents answer b in
     let e : 12 + 2 * contents .abducibles - 12 ≡ 2 * contents .abducibles = omega arith in
     let l = length-take-le (2 * contents .abducibles) (drop 12 file) (omega (arith, length-drop 12 file, t .0)) in
     let k = ap (λ (x : Contents). x .abducibles) (told file contents answer .contents-are) in
     let v = program-valid file contents answer .fewAbducibles in
-    (rw e (t .1), (rw e l, omega arith))
+    record { numbered = rw e (t .1); long = rw e l; few = omega arith }
 
 abbrev Inv-loop : tie.InvT-loop
 Inv-loop file base count end listed trues₀ falses₀ power₀ i₀ trues falses power i = (i ≤ count) × Seeding base listed trues falses power i
@@ -41,26 +50,82 @@ Inv-loop file base count end listed trues₀ falses₀ power₀ i₀ trues false
 abbrev μ-loop : tie.MeasureT-loop
 μ-loop file base count end listed trues₀ falses₀ power₀ i₀ trues falses power i = count - i
 
--- The power of 3 is one of the first sixteen.
-bounded : (c : tie.At-loop Inv-loop μ-loop) → c .loop .power ≤ 43046721
-bounded c =
-    let t = listed-is (now (c .before .before .before .args .file)) (c .before .before .before .args .contents) (c .before .before .before .pre .0) (λ x. c .before .before .shared-slice-known .given x .fits) in let h : 3 ^ (c .loop .i) ≤ 3 ^ 16 = pow-le-pow-right {n = 3} (omega arith) {i = c .loop .i} {j = 16} (omega arith) in
-    omega (arith, c .loop .inv .1 .raised)
+-- ---- what the file says
 
-raised : (c : tie.At-loop Inv-loop μ-loop) → 0 < c .loop .power
-raised c = let h : 3 ^ 0 ≤ 3 ^ (c .loop .i) = pow-le-pow-right {n = 3} (omega arith) {i = 0} {j = c .loop .i} (omega arith) in omega (arith, c .loop .inv .1 .raised)
+module _ (c : tie.After-shared-slice-known Inv-loop μ-loop) where
+  abbrev start : tie.Start Inv-loop μ-loop
+  start = c .before
 
--- The atom is one of the file's.
-few : (c : tie.After-number-at Inv-loop μ-loop) → 2 * c .number-at .result + 1 < 513
-few c =
-    let t = listed-is (now (c .before .before .before .before .before .args .file)) (c .before .before .before .before .before .args .contents) (c .before .before .before .before .before .pre .0) (λ x. c .before .before .before .before .shared-slice-known .given x .fits) in let b = seeding-below (c .before .before .before .before .before .args .base) (part (now (c .before .before .before .before .before .args .file)) (c .before .before .before .before .before .args .contents)) (c .before .before .loop .trues) (c .before .before .loop .falses) (c .before .before .loop .power) (c .before .before .loop .i) (c .before .before .loop .inv .1) (omega arith) (c .number-at .ensures .0) ((programIn (now (c .before .before .before .before .before .args .file))) .atoms) (rw (t .0) (program-valid (now (c .before .before .before .before .before .args .file)) (c .before .before .before .before .before .args .contents) (c .before .before .before .before .before .pre .0) .abduciblesListed)) in
-    omega (arith, program-valid (now (c .before .before .before .before .before .args .file)) (c .before .before .before .before .before .args .contents) (c .before .before .before .before .before .pre .0) .fewAtoms)
+  abbrev file : List ℕ
+  file = now (start .args .file)
+
+  abbrev program : Program
+  program = programIn file
+
+  abbrev contents : Contents
+  contents = start .args .contents
+
+  valid : Valid program
+  valid = program-valid file contents (start .pre .0)
+
+  there : 12 + 2 * contents .abducibles ≤ length file
+  there = omega (arith, abducibles-there file contents (start .pre .0) (λ x. c .shared-slice-known .given x .fits) .0)
+
+  listed : Listed file contents
+  listed = listed-is file contents (start .pre .0) (λ x. c .shared-slice-known .given x .fits)
+
+-- ---- at the loop
+
+module _ (c : tie.At-loop Inv-loop μ-loop) where
+  abbrev known : tie.After-shared-slice-known Inv-loop μ-loop
+  known = c .before .before
+
+  -- The power of 3 is one of the first sixteen.
+  bounded : c .loop .power ≤ 43046721
+  bounded =
+      let t = listed known .few in
+      let h : 3 ^ (c .loop .i) ≤ 3 ^ 16 = pow-le-pow-right {n = 3} (omega arith) {i = c .loop .i} {j = 16} (omega arith) in
+      omega (arith, c .loop .inv .1 .raised)
+
+  raised : 0 < c .loop .power
+  raised =
+      let h : 3 ^ 0 ≤ 3 ^ (c .loop .i) = pow-le-pow-right {n = 3} (omega arith) {i = 0} {j = c .loop .i} (omega arith) in
+      omega (arith, c .loop .inv .1 .raised)
+
+-- ---- once an atom is read
+
+module _ (c : tie.After-atom-at Inv-loop μ-loop) where
+  abbrev head : tie.At-loop Inv-loop μ-loop
+  head = c .before .before
+
+  -- The atom is one of the file's.
+  listed-atom : c .atom-at .result .0 < program (known head) .atoms
+  listed-atom =
+      let k = known head in
+      let l = head .loop in
+      seeding-below (start k .args .base) (part (file k) (contents k)) (l .trues) (l .falses) (l .power) (l .i) (l .inv .1)
+      (omega (arith, listed k .long)) (c .atom-at .ensures) (program k .atoms) (rw (listed k .numbered) (valid k .abduciblesListed))
+
+  few : negative (c .atom-at .result .0) < 513
+  few = omega (arith, listed-atom, valid (known head) .fewAtoms)
+
+-- ---- once its two literals are known
+
+module _ (c : tie.After-negative Inv-loop μ-loop) where
+  abbrev read : tie.After-atom-at Inv-loop μ-loop
+  read = c .before .before .before .before
+
+  at-few : c .before .positive .result .0 < 513
+  at-few = omega (arith, c .before .positive .ensures, few read)
+
+  opposite-few : c .negative .result .0 < 513
+  opposite-few = omega (arith, c .negative .ensures, few read)
 
 mul-end : tie.Need-mul-end Inv-loop μ-loop
-mul-end c = omega (arith, abducibles-there (now (c .before .args .file)) (c .before .args .contents) (c .before .pre .0) (λ x. c .shared-slice-known .given x .fits) .0)
+mul-end c = omega (arith, listed c .few)
 
 add-end : tie.Need-add-end Inv-loop μ-loop
-add-end c = omega (arith, abducibles-there (now (c .before .args .file)) (c .before .args .contents) (c .before .pre .0) (λ x. c .shared-slice-known .given x .fits) .0)
+add-end c = omega (arith, listed c .few)
 
 sub-listed : tie.Need-sub-listed Inv-loop μ-loop
 sub-listed c = omega arith
@@ -69,73 +134,84 @@ part-listed-start : tie.Need-part-listed-start Inv-loop μ-loop
 part-listed-start c = omega arith
 
 part-listed-end : tie.Need-part-listed-end Inv-loop μ-loop
-part-listed-end c = omega (arith, abducibles-there (now (c .before .args .file)) (c .before .args .contents) (c .before .pre .0) (λ x. c .shared-slice-known .given x .fits) .0)
+part-listed-end c = there c
 
 loop-holds : tie.Need-loop-holds Inv-loop μ-loop
-loop-holds c = (omega arith, seeding-none (c .before .before .args .base) (part (now (c .before .before .args .file)) (c .before .before .args .contents)))
+loop-holds c = let k = c .before in (omega arith, seeding-none (start k .args .base) (part (file k) (contents k)))
 
-mul-number-at : tie.Need-mul-number-at Inv-loop μ-loop
-mul-number-at c = let t = listed-is (now (c .before .before .before .before .args .file)) (c .before .before .before .before .args .contents) (c .before .before .before .before .pre .0) (λ x. c .before .before .before .shared-slice-known .given x .fits) in omega arith
+mul-atom-at : tie.Need-mul-atom-at Inv-loop μ-loop
+mul-atom-at c = omega (arith, listed (known (c .before)) .few)
 
-number-at-requires : tie.Need-number-at-requires Inv-loop μ-loop
-number-at-requires c κs = let t = listed-is (now (c .before .before .before .before .args .file)) (c .before .before .before .before .args .contents) (c .before .before .before .before .pre .0) (λ x. c .before .before .before .shared-slice-known .given x .fits) in omega arith
-
-mul-o : tie.Need-mul-o Inv-loop μ-loop
-mul-o c = omega arith
+atom-at-requires : tie.Need-atom-at-requires Inv-loop μ-loop
+atom-at-requires c κs = omega (arith, listed (known (c .before)) .long)
 
 digit-lanes-requires : tie.Need-digit-lanes-requires Inv-loop μ-loop
-digit-lanes-requires c κs = (c .before .before .before .before .before .pre .1, raised (c .before .before))
+digit-lanes-requires c κs = (start (known (head c)) .pre .1, raised (head c))
 
 digit-lanes-requires-2 : tie.Need-digit-lanes-requires-2 Inv-loop μ-loop
-digit-lanes-requires-2 c κs = (c .before .before .before .before .before .before .pre .1, raised (c .before .before .before))
+digit-lanes-requires-2 c κs = (start (known (head (c .before))) .pre .1, raised (head (c .before)))
+
+positive-requires : tie.Need-positive-requires Inv-loop μ-loop
+positive-requires c κs = search needs
+
+negative-requires : tie.Need-negative-requires Inv-loop μ-loop
+negative-requires c κs = search needs
 
 mul-trues : tie.Need-mul-trues Inv-loop μ-loop
-mul-trues c = omega arith
+mul-trues c = omega (arith, at-few c)
 
 array-write-trues : tie.Need-array-write-trues Inv-loop μ-loop
-array-write-trues c = let f = few (c .before .before) in omega arith
-
-add-trues : tie.Need-add-trues Inv-loop μ-loop
-add-trues c = omega arith
+array-write-trues c = at-few c
 
 mul-trues-2 : tie.Need-mul-trues-2 Inv-loop μ-loop
-mul-trues-2 c = omega arith
+mul-trues-2 c = omega (arith, opposite-few c)
 
 array-write-trues-2 : tie.Need-array-write-trues-2 Inv-loop μ-loop
-array-write-trues-2 c = let f = few (c .before .before) in omega arith
+array-write-trues-2 c = opposite-few c
 
 mul-falses : tie.Need-mul-falses Inv-loop μ-loop
-mul-falses c = omega arith
+mul-falses c = omega (arith, at-few c)
 
 array-write-falses : tie.Need-array-write-falses Inv-loop μ-loop
-array-write-falses c = let f = few (c .before .before) in omega arith
-
-add-falses : tie.Need-add-falses Inv-loop μ-loop
-add-falses c = omega arith
+array-write-falses c = at-few c
 
 mul-falses-2 : tie.Need-mul-falses-2 Inv-loop μ-loop
-mul-falses-2 c = omega arith
+mul-falses-2 c = omega (arith, opposite-few c)
 
 array-write-falses-2 : tie.Need-array-write-falses-2 Inv-loop μ-loop
-array-write-falses-2 c = let f = few (c .before .before) in omega arith
+array-write-falses-2 c = opposite-few c
 
 mul-power : tie.Need-mul-power Inv-loop μ-loop
-mul-power c = let f = bounded (c .before .before .before .before) in omega arith
+mul-power c = omega (arith, bounded (head (read c)))
 
 add-i : tie.Need-add-i Inv-loop μ-loop
-add-i c = let t = listed-is (now (c .before .before .before .before .before .before .before .args .file)) (c .before .before .before .before .before .before .before .args .contents) (c .before .before .before .before .before .before .before .pre .0) (λ x. c .before .before .before .before .before .before .shared-slice-known .given x .fits) in omega arith
+add-i c = omega (arith, listed (known (head (read c))) .few)
 
 loop-less : tie.Need-loop-less Inv-loop μ-loop
 loop-less c = omega arith
 
 loop-again : tie.Need-loop-again Inv-loop μ-loop
-loop-again c = let t = listed-is (now (c .before .before .before .before .before .before .before .args .file)) (c .before .before .before .before .before .before .before .args .contents) (c .before .before .before .before .before .before .before .pre .0) (λ x. c .before .before .before .before .before .before .shared-slice-known .given x .fits) in (omega arith, seeding-more (c .before .before .before .before .before .before .before .args .base) (part (now (c .before .before .before .before .before .before .before .args .file)) (c .before .before .before .before .before .before .before .args .contents)) (c .before .before .before .before .loop .trues) (c .before .before .before .before .loop .falses) (c .before .before .before .before .loop .power) (c .before .before .before .before .loop .i) (c .before .before .before .before .loop .inv .1) (omega arith) (c .before .before .number-at .ensures .0) (rw (t .0) (program-valid (now (c .before .before .before .before .before .before .before .args .file)) (c .before .before .before .before .before .before .before .args .contents) (c .before .before .before .before .before .before .before .pre .0) .abduciblesRising)) (few (c .before .before)) (c .before .digit-lanes .result) (c .digit-lanes2 .result) (c .before .digit-lanes .ensures) (c .digit-lanes2 .ensures))
+loop-again c =
+    let k = known (head (read c)) in
+    let l = head (read c) .loop in
+    let assumed = c .before .before .before .digit-lanes in
+    let ruled = c .before .before .digit-lanes2 in (
+      omega arith,
+      seeding-more (start k .args .base) (part (file k) (contents k)) (l .trues) (l .falses) (l .power) (l .i) (l .inv .1) (omega (arith, listed k .long))
+          (read c .atom-at .ensures) (rw (listed k .numbered) (valid k .abduciblesRising)) (few (read c)) (c .before .positive .result .0)
+          (c .negative .result .0) (c .before .positive .ensures) (c .negative .ensures) (assumed .result) (ruled .result) (assumed .ensures) (ruled .ensures),
+    )
 
 returns : tie.Need-returns Inv-loop μ-loop
 unfolding trueAbducible falseAbducible
-returns c = let t = listed-is (now (c .before .before .before .before .args .file)) (c .before .before .before .before .args .contents) (c .before .before .before .before .pre .0) (λ x. c .before .before .before .shared-slice-known .given x .fits) in let d : c .before .loop .inv .1 .done ≡ (programIn (now (c .before .before .before .before .args .file))) .abducibles = seeding-done (c .before .before .before .before .args .base) (part (now (c .before .before .before .before .args .file)) (c .before .before .before .before .args .contents)) (c .before .loop .trues) (c .before .loop .falses) (c .before .loop .power) (c .before .loop .i) (c .before .loop .inv .1) (omega arith) ∙ t .0 in
-    let x : Seeded (c .before .before .before .before .args .base) 1 2 ((programIn (now (c .before .before .before .before .args .file))) .abducibles) (c .before .loop .trues) = rw d at (c .before .loop .inv .1 .true-words) in
-    let y : Seeded (c .before .before .before .before .args .base) 2 1 ((programIn (now (c .before .before .before .before .args .file))) .abducibles) (c .before .loop .falses) = rw d at (c .before .loop .inv .1 .false-words) in
+returns c =
+    let k = known (c .before) in
+    let l = c .before .loop in
+    let base = start k .args .base in
+    let d : l .inv .1 .done ≡ program k .abducibles =
+    seeding-done base (part (file k) (contents k)) (l .trues) (l .falses) (l .power) (l .i) (l .inv .1) (omega (arith, listed k .long)) ∙ listed k .numbered in
+    let x : Seeded base 1 2 (program k .abducibles) (l .trues) = rw d at (l .inv .1 .true-words) in
+    let y : Seeded base 2 1 (program k .abducibles) (l .falses) = rw d at (l .inv .1 .false-words) in
     record { true-at = x .at; false-at = y .at }
 
 pub abducible-lanes-spec : {M : Type 1} → statement M
@@ -150,19 +226,18 @@ abducible-lanes-spec =
     part-listed-start
     part-listed-end
     loop-holds
-    mul-number-at
-    number-at-requires
-    mul-o
+    mul-atom-at
+    atom-at-requires
     digit-lanes-requires
     digit-lanes-requires-2
+    positive-requires
+    negative-requires
     mul-trues
     array-write-trues
-    add-trues
     mul-trues-2
     array-write-trues-2
     mul-falses
     array-write-falses
-    add-falses
     mul-falses-2
     array-write-falses-2
     mul-power

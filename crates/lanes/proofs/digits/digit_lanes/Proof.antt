@@ -32,10 +32,16 @@ loop-less : tie.Need-loop-less Inv-loop μ-loop
 loop-less c = search needs
 
 loop-again : tie.Need-loop-again Inv-loop μ-loop
-loop-again c = let a = c .before .before .before .args in (omega arith, laned-more (a .base) (a .power) (a .digit) (c .before .before .loop .word) (c .before .before .loop .lane) _ (c .before .before .loop .inv .1) (c .lane-if .ensures))
+loop-again c =
+    let a = c .before .before .before .args in
+    let l = c .before .before .loop in
+    (omega arith, laned-more (a .base) (a .power) (a .digit) (l .word) (l .lane) _ (l .inv .1) (c .lane-if .ensures))
 
 returns : tie.Need-returns Inv-loop μ-loop
-returns c = let a = c .before .before .args in laned-all (a .base) (a .power) (a .digit) (c .before .loop .word) (c .before .loop .lane) (c .loop-test .left) (c .before .loop .inv .1)
+returns c =
+    let a = c .before .before .args in
+    let l = c .before .loop in
+    laned-all (a .base) (a .power) (a .digit) (l .word) (l .lane) (c .loop-test .left) (l .inv .1)
 
 pub digit-lanes-spec : {M : Type 1} → statement M
 digit-lanes-spec =

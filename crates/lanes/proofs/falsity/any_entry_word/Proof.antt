@@ -2,9 +2,11 @@
 -- Assumes nothing.
 use native.Mathlib.Omega.{arith}
 use mathlib.Core.Path.{_≡_, sym, _∙_}
-use Prim.Native.Nat.{_+_, _*_, _≤_}
+use mathlib.Core.List.{List}
+use Prim.Native.Nat.{ℕ, _+_, _*_, _≤_}
 use lib.ListN.{length, drop}
 use denote.Ref.{now}
+use Rattle.papers.specs.Program.{Program}
 use Rattle.papers.specs.Field.{sizeOf}
 use Rattle.papers.specs.Reading.{programIn}
 use Rattle.dual.specs.Table.{foldsOf}
@@ -14,44 +16,63 @@ use Rattle.lanes.proofs.AnyEntry.{any-stands, any-word, any-none, any-n
 use Rattle.lanes.proofs.falsity.any_entry_word.Statement.{statement}
 use Rattle.lanes.proofs.falsity.any_entry_word.Tie as tie
 
--- The field is o's own,
-is : (c : tie.Else1) → literalIn (drop (c .before .before .before .before .args .place) (now (c .before .before .before .before .args .dual))) ≡ c .before .before .before .before .args .o
-is c = sym (c .before .literal-at .ensures) ∙ c .if1 .left
+-- ---- what is given
 
--- stands whole,
-whole : (c : tie.Else1)
-    → c .before .before .before .before .args .place + 5 + 2 * length (foldsOf (programIn (now (c .before .before .before .before .args .file))) (c .before .before .before .before .args .o))
-    ≤ length (now (c .before .before .before .before .args .dual))
-whole c =
-    let a = c .before .before .before .before .args in
-    let pre = c .before .before .before .before .pre in
-    any-whole (programIn (now (a .file))) (now (a .dual)) (a .o) (a .place) (pre .0) (pre .1) (is c)
+module _ (c : tie.Start) where
+  abbrev program : Program
+  program = programIn (now (c .args .file))
+
+  abbrev bytes : List ℕ
+  bytes = now (c .args .dual)
+
+  abbrev o : ℕ
+  o = c .args .o .0
+
+  abbrev place : ℕ
+  place = c .args .place
+
+abbrev start : tie.After-entry-literal → tie.Start
+start c = c .before .before .before
+
+-- ---- where the field is o's own
+
+module _ (c : tie.Else1) where
+  abbrev found : tie.After-entry-literal
+  found = c .before .before .before
+
+  abbrev s : tie.Start
+  s = start found
+
+  is : literalIn (drop (place s) (bytes s)) ≡ o s
+  is = sym (found .entry-literal .ensures) ∙ c .if1 .left
+
+  -- it stands whole,
+  whole : place s + 5 + 2 * length (foldsOf (program s) (o s)) ≤ length (bytes s)
+  whole = any-whole (program s) (bytes s) (o s) (place s) (s .pre .0) (s .pre .1) is
 
 -- and has a number for each fold.
-read : (c : tie.After-number-at) → c .number-at .result ≡ sizeOf (drop (c .before .before .before .before .before .args .place) (now (c .before .before .before .before .before .args .dual)))
-read c =
-    let a = c .before .before .before .before .before .args in
-    c .number-at .ensures .0 ∙ sym (size-at (now (a .dual)) (a .place))
+module _ (c : tie.After-number-at) where
+  abbrev given : tie.Start
+  given = s (c .before)
 
-sized : (c : tie.After-number-at)
-    → c .number-at .result ≡ 2 + 2 * length (foldsOf (programIn (now (c .before .before .before .before .before .args .file))) (c .before .before .before .before .before .args .o))
-sized c =
-    let a = c .before .before .before .before .before .args in
-    let pre = c .before .before .before .before .before .pre in
-    read c ∙ any-size (programIn (now (a .file))) (now (a .dual)) (a .o) (a .place) (pre .0) (pre .1) (is (c .before))
+  read : c .number-at .result ≡ sizeOf (drop (place given) (bytes given))
+  read = c .number-at .ensures .0 ∙ sym (size-at (bytes given) (place given))
 
-literal-at-requires : tie.Need-literal-at-requires
-literal-at-requires c κs =
-    let a = c .before .before .args in
-    any-stands (programIn (now (a .file))) (now (a .dual)) (a .o) (a .place) (c .before .before .pre .0) (c .before .before .pre .1)
+  sized : c .number-at .result ≡ 2 + 2 * length (foldsOf (program given) (o given))
+  sized = read ∙ any-size (program given) (bytes given) (o given) (place given) (given .pre .0) (given .pre .1) (is (c .before))
+
+entry-literal-requires : tie.Need-entry-literal-requires
+entry-literal-requires c κs =
+    let s = c .before .before in
+    any-stands (program s) (bytes s) (o s) (place s) (s .pre .0) (s .pre .1)
 
 returns : tie.Need-returns
 returns c =
-    let a = c .before .before .before .before .args in
-    let pre = c .before .before .before .before .pre in
-    let n : literalIn (drop (a .place) (now (a .dual))) ≡ a .o → ⊥ = λ e. c .if1 .taken (c .before .literal-at .ensures ∙ e) in (
-      any-none (programIn (now (a .file))) (now (a .dual)) (a .o) (a .place) (pre .0) (pre .1) n (now (a .truth)) (now (a .falses)),
-      any-next (programIn (now (a .file))) (now (a .dual)) (a .o) (a .place) (pre .0) (pre .1) n,
+    let found = c .before .before .before in
+    let s = start found in
+    let n : literalIn (drop (place s) (bytes s)) ≡ o s → ⊥ = λ e. c .if1 .taken (found .entry-literal .ensures ∙ e) in (
+      any-none (program s) (bytes s) (o s) (place s) (s .pre .0) (s .pre .1) n (now (s .args .truth)) (now (s .args .falses)),
+      any-next (program s) (bytes s) (o s) (place s) (s .pre .0) (s .pre .1) n,
     )
 
 add-number-at : tie.Need-add-number-at
@@ -71,28 +92,27 @@ sub-entry-word c = omega (arith, sized c)
 
 entry-word-requires : tie.Need-entry-word-requires
 entry-word-requires c κs =
-    let a = c .before .before .before .before .before .args in
-    let pre = c .before .before .before .before .before .pre in
+    let s = given c in
     let z = read c in (
-      any-folds (programIn (now (a .file))) (now (a .dual)) (a .o) (a .place) (pre .0) (pre .1) (is (c .before)) (a .place + 3 + c .number-at .result) (omega arith),
+      any-folds (program s) (bytes s) (o s) (place s) (s .pre .0) (s .pre .1) (is (c .before)) (place s + 3 + c .number-at .result) (omega arith),
       omega (arith, sized c),
     )
 
 returns-2 : tie.Need-returns-2
 returns-2 c =
-    let a = c .before .before .before .before .before .before .args in
-    let pre = c .before .before .before .before .before .before .pre in (
-      any-word (programIn (now (a .file))) (now (a .dual)) (a .o) (a .place) (pre .0) (pre .1) (now (a .truth)) (now (a .falses)) (c .entry-word .result .word)
-          (any-entered (programIn (now (a .file))) (now (a .dual)) (a .o) (a .place) (pre .0) (pre .1) (is (c .before .before)))
-          (c .entry-word .ensures .0),
-      c .entry-word .ensures .1,
+    let s = given (c .before) in
+    let r = c .entry-word in (
+      any-word (program s) (bytes s) (o s) (place s) (s .pre .0) (s .pre .1) (now (s .args .truth)) (now (s .args .falses)) (r .result .word)
+          (any-entered (program s) (bytes s) (o s) (place s) (s .pre .0) (s .pre .1) (is (c .before .before)))
+          (r .ensures .0),
+      r .ensures .1,
     )
 
 pub any-entry-word-spec : {M : Type 1} → statement M
 any-entry-word-spec =
     tie.close
     (tie.spec
-    literal-at-requires
+    entry-literal-requires
     returns
     add-number-at
     number-at-requires

@@ -1,4 +1,4 @@
--- `lanes::falsity::drop_pass` meets its contract. The loop's invariant: what dropping the first o objective literals has done, and the entries from o on
+-- `lanes::falsity::drop_pass` meets its contract. The loop's invariant: what dropping the first i objective literals has done, and the entries from i on
 -- stand at the place.
 -- Assumes nothing.
 use native.Mathlib.Omega.{arith}
@@ -14,14 +14,14 @@ use Rattle.lanes.proofs.falsity.drop_pass.Statement.{statement}
 use Rattle.lanes.proofs.falsity.drop_pass.Tie as tie
 
 abbrev Inv-loop : tie.InvT-loop
-Inv-loop file dual count truth backing falses₀ changed₀ place₀ o₀ falses changed place o =
-    (o ≤ count) × (EntriesAt (programIn file) dual o place × DroppedTo o (programIn file) truth backing falses₀ falses changed)
+Inv-loop file dual count truth backing falses₀ changed₀ place₀ i₀ falses changed place i =
+    (i ≤ count) × (EntriesAt (programIn file) dual i place × DroppedTo i (programIn file) truth backing falses₀ falses changed)
 
 abbrev μ-loop : tie.MeasureT-loop
-μ-loop file dual count truth backing falses₀ changed₀ place₀ o₀ falses changed place o = count - o
+μ-loop file dual count truth backing falses₀ changed₀ place₀ i₀ falses changed place i = count - i
 
 -- There is a word for each objective literal.
-few : (c : tie.In-loop Inv-loop μ-loop) → c .before .loop .o < 513
+few : (c : tie.In-loop Inv-loop μ-loop) → c .before .loop .i < 513
 few c = let v = c .before .before .before .before .pre .0 .valid .fewAtoms in omega (arith, c .before .before .before .before .pre .1 .0)
 
 loop-holds : tie.Need-loop-holds Inv-loop μ-loop
@@ -55,8 +55,8 @@ mul-falses c = omega (arith, few (c .before .before .before .before .before))
 element-write-falses : tie.Need-element-write-falses Inv-loop μ-loop
 element-write-falses c = few (c .before .before .before .before .before)
 
-add-o : tie.Need-add-o Inv-loop μ-loop
-add-o c = omega (arith, few (c .before .before .before .before .before .before))
+add-i : tie.Need-add-i Inv-loop μ-loop
+add-i c = omega (arith, few (c .before .before .before .before .before .before))
 
 loop-less : tie.Need-loop-less Inv-loop μ-loop
 loop-less c = omega arith
@@ -68,13 +68,19 @@ loop-again c =
     let s = t .before .loop in
     let v = t .before .before .before .before .pre .0 .valid in
     let read = c .before .before .before .before .any-entry-word in
-    let h : s .o < judged ((programIn (now (a .file))) .atoms) = omega (arith, t .before .before .before .before .pre .1 .0) in (
+    let h : s .i < judged ((programIn (now (a .file))) .atoms) = omega (arith, t .before .before .before .before .pre .1 .0) in (
       omega arith,
       (
         read .ensures .1,
         ⊎-elim
-            (λ w. rw (w .1) (dropped-less (programIn (now (a .file))) (now (a .truth)) (now (a .backing)) (now (a .falses)) (s .o) (s .falses) (s .changed) (s .inv .1 .1) v h (read .result .word) (read .ensures .0) (w .0 .taken)))
-            (λ w. rw (w .1) (dropped-same (programIn (now (a .file))) (now (a .truth)) (now (a .backing)) (now (a .falses)) (s .o) (s .falses) (s .changed) (s .inv .1 .1) v h (read .result .word) (read .ensures .0) (w .0 .left)))
+            (λ w.
+            rw (w .1)
+            (dropped-less (programIn (now (a .file))) (now (a .truth)) (now (a .backing)) (now (a .falses)) (s .i) (s .falses) (s .changed) (s .inv .1 .1) v h
+            (read .result .word) (read .ensures .0) (w .0 .taken)))
+            (λ w.
+            rw (w .1)
+            (dropped-same (programIn (now (a .file))) (now (a .truth)) (now (a .backing)) (now (a .falses)) (s .i) (s .falses) (s .changed) (s .inv .1 .1) v h
+            (read .result .word) (read .ensures .0) (w .0 .left)))
             (c .if1 .came),
       ),
     )
@@ -82,7 +88,7 @@ loop-again c =
 returns : tie.Need-returns Inv-loop μ-loop
 returns c =
     let a = c .before .before .before .before .args in
-    let e : c .before .loop .o ≡ a .count = omega arith in
+    let e : c .before .loop .i ≡ a .count = omega arith in
     rw e at (c .before .loop .inv .1 .1)
 
 pub drop-pass-spec : {M : Type 1} → statement M
@@ -99,7 +105,7 @@ drop-pass-spec =
     element-copy-out-new
     mul-falses
     element-write-falses
-    add-o
+    add-i
     loop-less
     loop-again
     returns)

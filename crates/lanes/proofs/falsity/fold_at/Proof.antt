@@ -46,13 +46,15 @@ fold-word-requires : tie.Need-fold-word-requires
 fold-word-requires c κs =
     let a = c .before .before .before .args in
     let e = sized (c .before) in
-    rw (listed-part (now (a .dual)) (a .place) (a .place + 5) (a .place + 3 + c .before .number-at .result) refl (omega arith)) (c .before .before .before .pre .listed)
+    rw (listed-part (now (a .dual)) (a .place) (a .place + 5) (a .place + 3 + c .before .number-at .result) refl (omega arith))
+    (c .before .before .before .pre .listed)
 
 returns : tie.Need-returns
 returns c =
     let a = c .before .before .before .before .args in
     let e = sized (c .before .before) in
-    (rw (listed-part (now (a .dual)) (a .place) (a .place + 5) (a .place + 3 + c .before .before .number-at .result) refl (omega arith)) at (c .fold-word .ensures), omega arith)
+    let listed = listed-part (now (a .dual)) (a .place) (a .place + 5) (a .place + 3 + c .before .before .number-at .result) refl (omega arith) in
+    (rw listed at (c .fold-word .ensures), omega arith)
 
 pub fold-at-spec : {M : Type 1} → statement M
 fold-at-spec =

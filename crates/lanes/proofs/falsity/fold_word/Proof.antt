@@ -17,17 +17,18 @@ abbrev μ-loop : tie.MeasureT-loop
 loop-holds : tie.Need-loop-holds Inv-loop μ-loop
 loop-holds c = (omega arith, some-to-none (now (c .before .args .content)) (now (c .before .args .truth)) (now (c .before .args .falses)))
 
-mul-number-at : tie.Need-mul-number-at Inv-loop μ-loop
-mul-number-at c = search needs
+mul-literal-at : tie.Need-mul-literal-at Inv-loop μ-loop
+mul-literal-at c = search needs
 
-number-at-requires : tie.Need-number-at-requires Inv-loop μ-loop
-number-at-requires c κs = search needs
+literal-at-requires : tie.Need-literal-at-requires Inv-loop μ-loop
+literal-at-requires c κs = search needs
 
 word-of-requires : tie.Need-word-of-requires Inv-loop μ-loop
 word-of-requires c κs =
     let a = c .before .before .before .before .args in
-    some-to-below (now (a .content)) (now (a .truth)) (now (a .falses)) (c .before .before .loop .i) (c .before .before .loop .word) (c .before .before .loop .inv .1)
-    (c .before .loop-test .taken) (c .number-at .ensures .0) (c .before .before .before .before .pre)
+    let l = c .before .before .loop in
+    some-to-below (now (a .content)) (now (a .truth)) (now (a .falses)) (l .i) (l .word) (l .inv .1)
+    (c .before .loop-test .taken) (c .literal-at .ensures .0) (c .before .before .before .before .pre)
 
 add-i : tie.Need-add-i Inv-loop μ-loop
 add-i c = search needs
@@ -41,7 +42,7 @@ loop-again c =
     rw (c .word-of .ensures) (
       omega arith,
       some-to-more (now (a .content)) (now (a .truth)) (now (a .falses)) (c .before .before .before .loop .i) (c .before .before .before .loop .word)
-          (c .before .before .before .loop .inv .1) (c .before .before .loop-test .taken) (c .before .number-at .ensures .0),
+          (c .before .before .before .loop .inv .1) (c .before .before .loop-test .taken) (c .before .literal-at .ensures .0),
     )
 
 returns : tie.Need-returns Inv-loop μ-loop
@@ -56,8 +57,8 @@ fold-word-spec =
     Inv-loop
     μ-loop
     loop-holds
-    mul-number-at
-    number-at-requires
+    mul-literal-at
+    literal-at-requires
     word-of-requires
     add-i
     loop-less

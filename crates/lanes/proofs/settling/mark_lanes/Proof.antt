@@ -12,7 +12,8 @@ use Rattle.lanes.proofs.settling.mark_lanes.Statement.{statement}
 use Rattle.lanes.proofs.settling.mark_lanes.Tie as tie
 
 abbrev Inv-loop : tie.InvT-loop
-Inv-loop word number before marked₀ lane₀ marked lane = (lane ≤ 64) × ((length marked ≡ 64) × ((l : ℕ) → l < lane → getD marked l 0 ≡ cond (inLane l word) number (getD before l 0)))
+Inv-loop word number before marked₀ lane₀ marked lane =
+    (lane ≤ 64) × ((length marked ≡ 64) × ((l : ℕ) → l < lane → getD marked l 0 ≡ cond (inLane l word) number (getD before l 0)))
 
 abbrev μ-loop : tie.MeasureT-loop
 μ-loop word number before marked₀ lane₀ marked lane = 64 - lane
@@ -44,7 +45,15 @@ loop-less c = search needs
 loop-again : tie.Need-loop-again Inv-loop μ-loop
 loop-again c =
     let a = c .before .before .before .args in
-    (omega arith, (simp length-set (c .before .before .loop .inv .1 .0), set-more (c .before .before .loop .marked) (c .before .before .loop .lane) (c .by-lane .result) (λ (l : ℕ). cond (inLane l (a .word)) (a .number) (getD (a .t3) l 0)) (omega (arith, c .before .before .loop .inv .1 .0)) (c .by-lane .ensures) (c .before .before .loop .inv .1 .1)))
+    let at = c .before .before .loop in
+    let new = c .by-lane in (
+      omega arith,
+      (
+        simp length-set (at .inv .1 .0),
+        set-more (at .marked) (at .lane) (new .result) (λ (l : ℕ). cond (inLane l (a .word)) (a .number) (getD (a .t3) l 0))
+            (omega (arith, at .inv .1 .0)) (new .ensures) (at .inv .1 .1),
+      ),
+    )
 
 returns : tie.Need-returns Inv-loop μ-loop
 returns c = record { at = λ l h. c .before .loop .inv .1 .1 l (omega arith) }

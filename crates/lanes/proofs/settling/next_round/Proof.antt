@@ -2,7 +2,6 @@
 -- Assumes nothing.
 use mathlib.Core.Path.{_≡_, _∙_}
 use Prim.Native.Nat.{_+_}
-use native.Mathlib.Omega.{arith}
 use denote.Ref.{now}
 use Rattle.literals.specs.Numbering.{judged}
 use Rattle.papers.specs.Program.{Program}
@@ -48,20 +47,13 @@ backing-words-requires c κs =
     let s = start c in
     few-atoms (now (s .args .file)) (s .args .contents) (s .pre .0 .answer)
 
-cast-count : tie.Need-cast-count
-cast-count c = search needs
-
-mul-count : tie.Need-mul-count
-mul-count c = search needs
-
-add-count : tie.Need-add-count
-add-count c = search needs
+judged-requires : tie.Need-judged-requires
+judged-requires c κs = search needs
 
 close-false-requires : tie.Need-close-false-requires
 close-false-requires c κs =
     let s = start (closed (c .before .before .before)) in
-    let same = atoms s in
-    (s .pre .1, omega arith)
+    (s .pre .1, rw (atoms s) (c .before .before .judged .ensures))
 
 returns : tie.Need-returns
 returns c =
@@ -95,8 +87,6 @@ next-round-spec =
     (tie.spec
     close-true-requires
     backing-words-requires
-    cast-count
-    mul-count
-    add-count
+    judged-requires
     close-false-requires
     returns)

@@ -16,11 +16,11 @@ use Rattle.lanes.proofs.truth.close_pass.Statement.{statement}
 use Rattle.lanes.proofs.truth.close_pass.Tie as tie
 
 abbrev Inv-loop : tie.InvT-loop
-Inv-loop file contents places truth₀ falses count changed₀ fold₀ truth changed fold =
-    (fold ≤ count) × ((count ≡ length (allRules (programIn file))) × Passed (allRules (programIn file)) falses truth₀ fold truth changed)
+Inv-loop file contents places truth₀ falses count changed₀ i₀ truth changed i =
+    (i ≤ count) × ((count ≡ length (allRules (programIn file))) × Passed (allRules (programIn file)) falses truth₀ i truth changed)
 
 abbrev μ-loop : tie.MeasureT-loop
-μ-loop file contents places truth₀ falses count changed₀ fold₀ truth changed fold = count - fold
+μ-loop file contents places truth₀ falses count changed₀ i₀ truth changed i = count - i
 
 -- ---- what the file says
 
@@ -46,8 +46,8 @@ loop-holds c = (omega arith, (counted (c .before .before .before .before .before
 close-rule-requires : tie.Need-close-rule-requires Inv-loop μ-loop
 close-rule-requires c κs = (start (c .before .before) .pre, omega arith)
 
-add-fold : tie.Need-add-fold Inv-loop μ-loop
-add-fold c = omega (arith, few (start (c .before .before .before .before)))
+add-i : tie.Need-add-i Inv-loop μ-loop
+add-i c = omega (arith, few (start (c .before .before .before .before)))
 
 loop-less : tie.Need-loop-less Inv-loop μ-loop
 loop-less c = omega arith
@@ -68,7 +68,7 @@ loop-again c =
 returns : tie.Need-returns Inv-loop μ-loop
 returns c =
     let at = c .before .loop in
-    let e : at .fold ≡ length (rules (start (c .before))) = omega arith in
+    let e : at .i ≡ length (rules (start (c .before))) = omega arith in
     rw e at (at .inv .1 .1)
 
 pub close-pass-spec : {M : Type 1} → statement M
@@ -80,7 +80,7 @@ close-pass-spec =
     add-count
     loop-holds
     close-rule-requires
-    add-fold
+    add-i
     loop-less
     loop-again
     returns)

@@ -17,7 +17,7 @@ body-word-requires : tie.Need-body-word-requires
 body-word-requires c κs =
     let a = c .before .before .before .before .args in
     let pre = c .before .before .before .before .pre in
-    rw (c .before .body-of .ensures .literals) (body-few (file-judged (now (a .file)) (a .contents) (pre .0 .answer)) (a .fold) (pre .1))
+    rw (c .before .body-of .ensures .literals) (body-few (file-judged (now (a .file)) (a .contents) (pre .0 .answer)) (a .fold .0) (pre .1))
 
 mul-old : tie.Need-mul-old
 mul-old c = search needs

@@ -36,14 +36,16 @@ loop-less : tie.Need-loop-less Inv-loop μ-loop
 loop-less c =
     let a = c .before .before .before .before .before .before .before .args in
     let p = programIn (now (a .file)) in
-    going-less (judged (p .atoms)) (allRules p) (now (a .falses)) (now (a .truth)) (rules-here (c .before .before .before .before)) (c .before .before .before .before .lent-known .ensures)
+    going-less (judged (p .atoms)) (allRules p) (now (a .falses)) (now (a .truth))
+    (rules-here (c .before .before .before .before)) (c .before .before .before .before .lent-known .ensures)
     (c .before .before .before .loop .inv) (c .close-pass .ensures) (c .before .before .loop-test .taken)
 
 loop-again : tie.Need-loop-again Inv-loop μ-loop
 loop-again c =
     let a = c .before .before .before .before .before .before .before .args in
     let p = programIn (now (a .file)) in
-    going-on (judged (p .atoms)) (allRules p) (now (a .falses)) (now (a .truth)) (rules-here (c .before .before .before .before)) (c .before .before .before .before .lent-known .ensures)
+    going-on (judged (p .atoms)) (allRules p) (now (a .falses)) (now (a .truth))
+    (rules-here (c .before .before .before .before)) (c .before .before .before .before .lent-known .ensures)
     (c .before .before .before .loop .inv) (c .close-pass .ensures)
 
 returns : tie.Need-returns Inv-loop μ-loop

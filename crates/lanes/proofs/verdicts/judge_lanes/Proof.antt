@@ -42,7 +42,8 @@ returns c =
     let settled = c .before .before .before .before .before .before in
     let s = start settled in
     let r = settled .settle .result in
-    verdict-lanes (program s) (s .args .base) (r .model .t) (r .model .f) (r .rounds) (settled .settle .ensures .0) (query s) (explained .result) (s .pre .0 .asked)
+    verdict-lanes (program s) (s .args .base) (r .model .t) (r .model .f) (r .rounds) (settled .settle .ensures .0) (query s)
+    (explained .result) (s .pre .0 .asked)
     (rw (atoms s) (explained .ensures))
 
 pub judge-lanes-spec : {M : Type 1} → statement M

@@ -20,17 +20,18 @@ abbrev μ-loop : tie.MeasureT-loop
 loop-holds : tie.Need-loop-holds Inv-loop μ-loop
 loop-holds c = let a = c .before .args in (omega arith, (refl, word-starts (now (a .body)) (now (a .set)) (now (a .negated))))
 
-mul-number-at : tie.Need-mul-number-at Inv-loop μ-loop
-mul-number-at c = search needs
+mul-literal-at : tie.Need-mul-literal-at Inv-loop μ-loop
+mul-literal-at c = search needs
 
-number-at-requires : tie.Need-number-at-requires Inv-loop μ-loop
-number-at-requires c κs = search needs
+literal-at-requires : tie.Need-literal-at-requires Inv-loop μ-loop
+literal-at-requires c κs = search needs
 
 word-of-requires : tie.Need-word-of-requires Inv-loop μ-loop
 word-of-requires c κs =
     let a = c .before .before .before .before .args in
     let l = c .before .before .loop in
-    literal-below (now (a .body)) (now (a .set)) (now (a .negated)) (l .i) (l .word) (l .inv .1 .1) (omega arith) (c .number-at .ensures .0) 513 (c .before .before .before .before .pre)
+    literal-below (now (a .body)) (now (a .set)) (now (a .negated)) (l .i) (l .word) (l .inv .1 .1) (omega arith) (c .literal-at .ensures .0) 513
+    (c .before .before .before .before .pre)
 
 add-i : tie.Need-add-i Inv-loop μ-loop
 add-i c = search needs
@@ -46,7 +47,7 @@ loop-again c =
       (
         l .inv .1 .0,
         rw (c .word-of .ensures)
-            (word-goes-on (now (a .body)) (now (a .set)) (now (a .negated)) (l .i) (l .word) (l .inv .1 .1) (omega arith) (c .before .number-at .ensures .0)),
+            (word-goes-on (now (a .body)) (now (a .set)) (now (a .negated)) (l .i) (l .word) (l .inv .1 .1) (omega arith) (c .before .literal-at .ensures .0)),
       ),
     )
 
@@ -63,8 +64,8 @@ body-word-spec =
     Inv-loop
     μ-loop
     loop-holds
-    mul-number-at
-    number-at-requires
+    mul-literal-at
+    literal-at-requires
     word-of-requires
     add-i
     loop-less
