@@ -12,7 +12,8 @@ ghost use Rattle.report.specs.Decimal.{decimal};
 ghost use Rattle.report.specs.Text.{Put, spaced};
 ghost use Rattle.report.specs.Lines.{stateWord, paperWord, assumption, assumptions, headingLine, foundLine, lastLine, refusedLine};
 ghost use Rattle.report.specs.Lines.{sign as signOf};
-use fields::field::number_at;
+use fields::numbered::atom_at;
+use literals::Atom;
 use papers::Paper;
 use papers::Refusal;
 use steps::State;
@@ -47,14 +48,14 @@ fn sign(digit: u32) -> u8
 }
 
 // An abducible by its digit: nothing where it is open.
-fn put_assumption(buffer: &mut [u8], at: usize, atom: usize, digit: u32) -> usize
+fn put_assumption(buffer: &mut [u8], at: usize, atom: Atom, digit: u32) -> usize
     requires { ⌜ at < 2 ^ 40 ⌝ }
-    ensures { λ r. ⌜ Put at (spaced (assumption atom digit)) (now (buffer .entry)) r (now (buffer .exit)) × (r ≤ at + 22) ⌝ }
+    ensures { λ r. ⌜ Put at (spaced (assumption (atom .0) digit)) (now (buffer .entry)) r (now (buffer .exit)) × (r ≤ at + 22) ⌝ }
 {
     if digit == 0 {
         return at;
     }
-    let end = put_number(buffer, at, b" ", atom as u64);
+    let end = put_number(buffer, at, b" ", atom.0 as u64);
     put_byte(buffer, end, sign(digit))
 }
 
@@ -68,7 +69,7 @@ fn put_assumptions(buffer: &mut [u8], at: usize, scenario: u32, abducibles: &[u8
     let mut rest = scenario;
     let mut i: usize = 0;
     while i < count {
-        end = put_assumption(buffer, end, number_at(abducibles, 2 * i), rest % 3);
+        end = put_assumption(buffer, end, atom_at(abducibles, 2 * i), rest % 3);
         rest /= 3;
         i += 1;
     }

@@ -27,11 +27,11 @@ loop-holds c =
     let a = c .before .before .args in
     (left-all (a .at) (spaced (assumptions (numbers (now (a .abducibles))) (a .scenario))) (now (a .buffer)), (omega arith, (omega arith, refl)))
 
-mul-number-at : tie.Need-mul-number-at Inv-loop μ-loop
-mul-number-at c = search needs
+mul-atom-at : tie.Need-mul-atom-at Inv-loop μ-loop
+mul-atom-at c = search needs
 
-number-at-requires : tie.Need-number-at-requires Inv-loop μ-loop
-number-at-requires c κs = search needs
+atom-at-requires : tie.Need-atom-at-requires Inv-loop μ-loop
+atom-at-requires c κs = search needs
 
 put-assumption-requires : tie.Need-put-assumption-requires Inv-loop μ-loop
 put-assumption-requires c κs = omega arith
@@ -47,9 +47,11 @@ loop-again c =
     let a = c .before .before .before .before .before .before .before .before .before .args in
     let l = c .before .before .before .before .before .before .loop in
     let put = c .before .before .put-assumption in
-    let atom = c .before .before .before .number-at in
-    let next = items-next (now (a .abducibles)) (l .i) (l .rest) (atom .result) (c .before .before .before .before .before .loop-test .taken) (atom .ensures .0) in (
-      left-after (spaced (assumption (atom .result) (l .rest % 3))) (spaced (assumptions (numbers (drop (2 * (l .i + 1)) (now (a .abducibles)))) (l .rest / 3))) (put .ensures .0) (rw next at (l .inv .0)),
+    let atom = c .before .before .before .atom-at in
+    let turn = c .before .before .before .before .before in
+    let next = items-next (now (a .abducibles)) (l .i) (l .rest) (atom .result .0) (turn .loop-test .taken) (atom .ensures) in
+    let more = spaced (assumptions (numbers (drop (2 * (l .i + 1)) (now (a .abducibles)))) (l .rest / 3)) in (
+      left-after (spaced (assumption (atom .result .0) (l .rest % 3))) more (put .ensures .0) (rw next at (l .inv .0)),
       (omega arith, (let p = put .ensures .1 in omega arith, put .kept .0 ∙ l .inv .1 .1 .1)),
     )
 
@@ -69,8 +71,8 @@ put-assumptions-spec =
     Inv-loop
     μ-loop
     loop-holds
-    mul-number-at
-    number-at-requires
+    mul-atom-at
+    atom-at-requires
     put-assumption-requires
     add-i
     loop-less
