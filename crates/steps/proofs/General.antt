@@ -1,5 +1,5 @@
 -- The general rule, on any record that passes test 14: "continue with allowance w from position p tries min(w, stop - p) scenarios",
--- where the stopping point is "the first such scenario at or after p that finds the list full, else 3^k".
+-- where the stopping point is "the first such scenario at or after p that finds the list full, else 3^k" (that it is the first: `First`).
 -- Assumes nothing.
 use mathlib.Core.Path.{_≡_, refl, ap, _∙_}
 use mathlib.Core.Bool.{true}
@@ -89,7 +89,7 @@ module _ (P : Problem) (r : Record) (l : List ℕ) (within : r .position ≤ sce
       never : Onward (atStop P r l) (step P (atStop P r l)) → ⊥
       never o = let e = ap (λ (z : Work). z .position) stop-still in omega arith
 
-  -- "Tries min(w, stop - p) scenarios", and the new position is "p plus tried": so it is the first of its kind.
+  -- "Tries min(w, stop - p) scenarios", and the new position is "p plus tried".
   pub continue-tries : (w : ℕ) → continue P w r l .tried ≡ min w (stopFrom P r l - r .position)
   unfolding continue stopFrom atStop
   continue-tries w =

@@ -8,6 +8,7 @@ pub mod Sums
 pub mod Steps
 pub mod Runs
 pub mod General
+pub mod First
 pub mod Canonical
 pub mod Sound
 pub mod Keeping

@@ -55,7 +55,28 @@ module _ (P : Problem) (p f : ℕ) (l : List ℕ) where
       go true false a b h = (a, ltb-false f (length l) b)
       go false y a b h = absurd (let z : _≡_ {A = ℕ} 0 1 = cc in omega arith)
 
-  -- Where a step writes, there is room.
+  -- Where a step only tries, its scenario is not new.
+  pub move-tries-old : move P p f l ≡ tries → newTo P (take f l) p ≡ false
+  unfolding move
+  move-tries-old e = go (eqb p (scenarios P)) (newTo P (take f l) p) (ltb f (length l)) refl e
+    where
+      go : (x y z : Bool) → newTo P (take f l) p ≡ y → cond x stands (cond y (cond z writes stands) tries) ≡ tries → newTo P (take f l) p ≡ false
+      go true y z a h = absurd (let q : _≡_ {A = ℕ} 0 1 = cc in omega arith)
+      go false true true a h = absurd (let q : _≡_ {A = ℕ} 0 1 = cc in omega arith)
+      go false true false a h = absurd (let q : _≡_ {A = ℕ} 0 1 = cc in omega arith)
+      go false false z a h = a
+
+  -- Where a step writes, its scenario is new, and there is room.
+  pub move-writes-new : move P p f l ≡ writes → newTo P (take f l) p ≡ true
+  unfolding move
+  move-writes-new e = go (eqb p (scenarios P)) (newTo P (take f l) p) refl e
+    where
+      go : (x y : Bool) → newTo P (take f l) p ≡ y → cond x stands (cond y (cond (ltb f (length l)) writes stands) tries) ≡ writes
+          → newTo P (take f l) p ≡ true
+      go true y a h = absurd (let q : _≡_ {A = ℕ} 0 1 = cc in omega arith)
+      go false true a h = a
+      go false false a h = absurd (let q : _≡_ {A = ℕ} 0 1 = cc in omega arith)
+
   pub move-writes-tells : move P p f l ≡ writes → f < length l
   unfolding move
   move-writes-tells e = go (eqb p (scenarios P)) (newTo P (take f l) p) (ltb f (length l)) refl e

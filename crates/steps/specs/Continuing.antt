@@ -1,8 +1,9 @@
 -- One call: the record and the list, the single step, and what continuing reports.
-use mathlib.Core.Bool.{Bool, false, not, cond, _&&_, _||_}
-use mathlib.Core.List.{List, [], _∷_}
-use Prim.Native.Nat.{ℕ, zero, suc, _+_, _-_}
-use lib.Dec.{eqb, ltb}
+use mathlib.Core.Path.{_≡_}
+use mathlib.Core.Bool.{Bool, true, false, not, cond, _&&_, _||_}
+use mathlib.Core.List.{List, [], _∷_, _++_}
+use Prim.Native.Nat.{ℕ, zero, suc, _+_, _-_, _<_, _≤_}
+use lib.Dec.{eqb, ltb, leb}
 use lib.ListN.{length, take, set}
 use Rattle.steps.specs.declared.State.{State}
 use Rattle.steps.specs.declared.State.the-variants.{Ended, Full, Going}
@@ -93,7 +94,30 @@ begun r list = work (r .position) (r .found) list 0 0
 unfoldable pub continue : Problem → ℕ → Record → List ℕ → Report
 continue P w r list = reportOf P w (steps P w (begun r list))
 
--- "The stopping point is the first such scenario at or after p that finds the list full, else 3^k": where steps come to stand still,
--- for which 3^k - p of them are enough. From a fresh search this is `stop`.
+-- The stopping point: where steps come to stand still, for which 3^k - p of them are enough. It is the one number that is `FirstFull`, and
+-- from a fresh search it is `stop`.
 unfoldable pub stopFrom : Problem → Record → List ℕ → ℕ
 stopFrom P r list = steps P (scenarios P - r .position) (begun r list) .position
+
+-- ---- the stopping point by its own words
+
+-- "Listed entries including those this call adds": those listed once the d scenarios from p on are looked at, each beside those before it.
+unfoldable pub listedAfter : Problem → List ℕ → ℕ → ℕ → List ℕ
+listedAfter P entries p zero = entries
+listedAfter P entries p (suc d) =
+    let listed = listedAfter P entries p d in
+    listed ++ cond (newTo P listed (p + d)) ((p + d) ∷ []) []
+
+abbrev pub listedAt : Problem → Record → List ℕ → ℕ → List ℕ
+listedAt P r list q = listedAfter P (take (r .found) list) (r .position) (q - r .position)
+
+-- Scenario q is "an explanation containing no listed entry's assumptions", and it "finds the list full".
+unfoldable pub findsFull : Problem → Record → List ℕ → ℕ → Bool
+findsFull P r list q = newTo P (listedAt P r list q) q && leb (length list) (length (listedAt P r list q))
+
+-- "The stopping point is the first such scenario at or after p that finds the list full, else 3^k."
+pub record FirstFull (P : Problem) (r : Record) (list : List ℕ) (stop : ℕ) : Type 0 where
+  pub least : r .position ≤ stop
+  pub most : stop ≤ scenarios P
+  pub before : (q : ℕ) → r .position ≤ q → q < stop → findsFull P r list q ≡ false
+  pub there : stop < scenarios P → findsFull P r list stop ≡ true
