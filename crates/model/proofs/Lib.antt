@@ -9,6 +9,7 @@ pub mod ScenarioLaws
 pub mod Fields
 pub mod Conjugates
 pub mod FalsityLaws
+pub mod Examples
 pub mod Rings
 pub mod ByteLaws
 pub mod Support

@@ -14,12 +14,12 @@ use Rattle.papers.specs.Program.{Rule, Program, allRules}
 use Rattle.papers.specs.Valid.{All, All.none as nothing, All.each as each, Valid}
 use Rattle.dual.specs.Table.{dual}
 use Rattle.model.specs.Sets.{Set, has, empty, complement}
-use Rattle.model.specs.Iteration.{iterate}
 use Rattle.model.specs.Scenarios.{possibleAbducibles}
 use Rattle.model.specs.LeastSet.{literalHolds, bodyHolds, supported}
-use Rattle.model.specs.Model.{possibleReduct, falseSet, modelBytes, rounds}
-use Rattle.model.specs.Falsity.{someHolds, backedSet, greatest}
+use Rattle.model.specs.Model.{possibleReduct, falseSet}
+use Rattle.model.specs.Falsity.{someHolds}
 use Rattle.model.specs.Computing.{falsity}
+use Rattle.model.proofs.Examples.{two, ringOfTwo}
 use Rattle.model.proofs.TestLaws.{left, right, either}
 use Rattle.model.proofs.SetLaws.{Sub, empty-out, has-within, complement-in, complement-of}
 use Rattle.model.proofs.LeastLaws.{Closed}
@@ -86,18 +86,7 @@ module _ (p : Program) (s : ℕ) (trues ring : Set) (h : Ring p s trues ring) wh
 pub backed-false : (p : Program) → Valid p → (s : ℕ) (trues ring : Set) → Backed p s (dual p) trues ring → Sub ring (falseSet p s trues)
 backed-false p v s trues ring b = rw (falsity-from-dual p v s trues) at (greatest-holds p s (dual p) trues ring b)
 
--- ---- a ring of two: p :- q; q :- p
-
-abbrev two : Program
-two = record {
-  atoms = 2;
-  abducibles = [];
-  rules = record { head = 0; body = 4 ∷ [] } ∷ record { head = 2; body = 0 ∷ [] } ∷ [];
-  integrity = [];
-}
-
-abbrev ringOfTwo : Set
-ringOfTwo = true ∷ false ∷ true ∷ false ∷ false ∷ []
+-- ---- a ring of two
 
 two-ring : Ring two 0 (empty 5) ringOfTwo
 unfolding falsity
@@ -107,28 +96,6 @@ two-ring = record {
   excused = each (λ t. tt) (each (λ t. tt) nothing);
 }
 
--- It is false by the law,
+-- It is false by the law, and so in the model (`two-model`).
 pub two-false : Sub ringOfTwo (falseSet two 0 (empty 5))
 two-false = ring-false two 0 (empty 5) ringOfTwo two-ring
-
--- and so in the model. Both fail, in the first round; the second changes nothing.
-pub two-model : modelBytes two 0 ≡ 2 ∷ 2 ∷ 2 ∷ 2 ∷ 2 ∷ []
-unfolding falsity
-two-model = refl
-
-pub two-rounds : rounds two 0 ≡ 1
-unfolding falsity
-two-rounds = refl
-
-pub two-greatest : greatest two 0 (dual two) (empty 5) ≡ true ∷ true ∷ true ∷ true ∷ true ∷ []
-unfolding falsity
-two-greatest = refl
-
--- From the empty set up, the same step never reaches p and q: falsity is no least set.
-pub two-least : iterate 5 (backedSet two 0 (dual two) (empty 5)) (empty 5) ≡ false ∷ true ∷ false ∷ true ∷ true ∷ []
-unfolding falsity
-two-least = refl
-
-pub two-least-rests : backedSet two 0 (dual two) (empty 5) (false ∷ true ∷ false ∷ true ∷ true ∷ []) ≡ false ∷ true ∷ false ∷ true ∷ true ∷ []
-unfolding falsity
-two-least-rests = refl
