@@ -1,4 +1,5 @@
--- Laws of the table: its bytes read back, its length and its bound; and of the folds and facts of a head.
+-- Laws of the table: all entries, falsum's last, its bytes read back, its length and its bound; and of the folds and facts of a head.
+pub mod AllEntries
 pub mod ReadBack
 pub mod Lengths
 pub mod Bound

@@ -1,0 +1,25 @@
+-- "For each objective literal rising, falsum last": the entries of 0 to 2n - 1, then that of 2n.
+-- Assumes nothing.
+use mathlib.Core.Path.{_≡_, ap, _∙_}
+use mathlib.Core.List.{_++_, append-nil, append-assoc}
+use Prim.Native.Nat.{ℕ, zero, suc, _+_}
+use native.Mathlib.Omega.{arith}
+use native.Mathlib.Nat.{zero-add, add-zero}
+use Rattle.literals.specs.Numbering.{falsum}
+use Rattle.papers.specs.Program.{Program}
+use Rattle.dual.specs.Table.{entryIfAny, entriesFrom, dual}
+
+-- The entries of one literal more end with that literal's.
+entries-last : (p : Program) (count o : ℕ) → entriesFrom p (count + 1) o ≡ entriesFrom p count o ++ entryIfAny p (o + count)
+unfolding entriesFrom
+entries-last p zero o = rw (add-zero o) (append-nil (entryIfAny p o))
+entries-last p (suc count) o =
+    let s : suc count + 1 ≡ suc (count + 1) = omega arith in
+    let e : o + 1 + count ≡ o + suc count = omega arith in
+    rw (s, entries-last p count (o + 1), append-assoc, e)
+
+pub falsum-last : (p : Program) → dual p ≡ entriesFrom p (falsum (p .atoms)) 0 ++ entryIfAny p (falsum (p .atoms))
+unfolding dual
+falsum-last p =
+    let o = falsum (p .atoms) in
+    entries-last p o 0 ∙ ap (λ (q : ℕ). entriesFrom p o 0 ++ entryIfAny p q) (zero-add o)
