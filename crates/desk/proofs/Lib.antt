@@ -3,4 +3,5 @@ pub mod PaperLaws
 pub mod CallLaws
 pub mod TurnLaws
 pub mod TextLaws
+pub mod Printing
 pub mod Examples

@@ -1,11 +1,13 @@
 // The desk program: it reads the files `causes` and `sheet` of its folder, searches for the minimal
-// explanations and prints them. What it prints is what `write_report` ensures.
+// explanations and prints them.
 mod output;
 mod searching;
 
 ghost use mathlib.Core.Path.{_≡_};
 ghost use lib.ListN.{length};
 ghost use Rattle.io.specs.Counts.{Counts};
+ghost use Rattle.papers.specs.Reading.{readPapers};
+ghost use Rattle.desk.specs.Output.{deskText};
 use libc::STDOUT_FILENO;
 use output::write_report;
 
@@ -43,6 +45,14 @@ fn read_paper(path: &[u8], paper: &mut [u8]) -> usize
     size
 }
 
+// Hands to the system's `write` the text that document 01 has printed of these papers. The papers are lent for the contract: nothing is
+// said of the bytes that `write` takes, so here it is said of those that it is given.
+fn print_text(file: &[u8], sheet: &[u8], text: &[u8])
+    requires { ⌜ now text ≡ deskText (readPapers (now file) (now sheet)) ⌝ }
+{
+    io::write_all(STDOUT_FILENO, text);
+}
+
 fn main() {
     let mut file = [0u8; 65536];
     let file_size = read_paper(b"causes", &mut file);
@@ -58,5 +68,5 @@ fn main() {
         &mut list,
         &mut out,
     );
-    io::write_all(STDOUT_FILENO, &out[..size]);
+    print_text(&file[..file_size], &sheet[..sheet_size], &out[..size]);
 }

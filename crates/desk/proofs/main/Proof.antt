@@ -1,16 +1,18 @@
--- `desk::main` is safe and ends: what it prints lies within its buffer.
+-- `desk::main` is safe and ends, and what it hands to `print_text` is the text of its papers.
 -- Assumes nothing.
-use mathlib.Core.Path.{sym}
-use Prim.Native.Nat.{ℕ, _≤_}
+use mathlib.Core.Path.{_≡_, sym, _∙_}
+use Prim.Native.Nat.{ℕ}
 use native.Mathlib.Omega.{arith}
 use borrow.Author.Needs.{needs}
 use lib.ListN.{length, length-replicate}
 use lib.Seq.{length-take-le}
+use Rattle.desk.proofs.Printing.{handed-on}
 use Rattle.desk.proofs.main.Statement.{statement}
 use Rattle.desk.proofs.main.Tie as tie
 
-within : (c : tie.After-write-report) → c .write-report .result ≤ length (c .write-report .last .1 .1 .1 .1 .0)
-within c = let m = c .write-report .ensures .1 in let k = c .write-report .kept .1 .1 .1 .1 .0 in omega (arith, length-replicate {A = ℕ} 98304 0)
+-- The output buffer keeps its length.
+size : (c : tie.After-write-report) → length (c .write-report .last .1 .1 .1 .1 .0) ≡ 98304
+size c = c .write-report .kept .1 .1 .1 .1 .0 ∙ length-replicate {A = ℕ} 98304 0
 
 slice-aggregate-read-paper : tie.Need-slice-aggregate-read-paper
 slice-aggregate-read-paper c = search needs
@@ -54,14 +56,34 @@ slice-aggregate-write-report-5 c = search needs
 write-report-requires : tie.Need-write-report-requires
 write-report-requires c κs = search needs
 
+array-share-prefix-file-2 : tie.Need-array-share-prefix-file-2
+array-share-prefix-file-2 c = search needs
+
+slice-aggregate-print-text : tie.Need-slice-aggregate-print-text
+slice-aggregate-print-text c = search needs
+
+array-share-prefix-sheet-2 : tie.Need-array-share-prefix-sheet-2
+array-share-prefix-sheet-2 c = search needs
+
+slice-aggregate-print-text-2 : tie.Need-slice-aggregate-print-text-2
+slice-aggregate-print-text-2 c = search needs
+
 array-share-prefix-out : tie.Need-array-share-prefix-out
-array-share-prefix-out c = within (c .before .before .before)
+array-share-prefix-out c =
+    let n = size (c .before .before .before .before .before) in
+    let most = c .before .before .before .before .before .write-report .ensures .1 in
+    omega arith
 
-slice-aggregate-write-all : tie.Need-slice-aggregate-write-all
-slice-aggregate-write-all c = sym (length-take-le _ _ (within (c .before .before .before .before)))
+slice-aggregate-print-text-3 : tie.Need-slice-aggregate-print-text-3
+slice-aggregate-print-text-3 c =
+    let n = size (c .before .before .before .before .before .before) in
+    let most = c .before .before .before .before .before .before .write-report .ensures .1 in
+    sym (length-take-le _ _ (omega arith))
 
-write-all-requires : tie.Need-write-all-requires
-write-all-requires c κs = search needs
+print-text-requires : tie.Need-print-text-requires
+print-text-requires c κs =
+    let report = c .before .before .before .before .before .before .write-report in
+    handed-on (report .ensures .0) (let m = report .ensures .1 in omega (arith, length-replicate {A = ℕ} 98304 0))
 
 returns : tie.Need-returns
 returns c = search needs
@@ -84,7 +106,11 @@ main-spec =
     slice-aggregate-write-report-4
     slice-aggregate-write-report-5
     write-report-requires
+    array-share-prefix-file-2
+    slice-aggregate-print-text
+    array-share-prefix-sheet-2
+    slice-aggregate-print-text-2
     array-share-prefix-out
-    slice-aggregate-write-all
-    write-all-requires
+    slice-aggregate-print-text-3
+    print-text-requires
     returns)
