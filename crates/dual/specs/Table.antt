@@ -1,10 +1,10 @@
 -- The dual table: Definition 3.1 of document 000, as document 01 writes it.
 use mathlib.Core.Bool.{Bool, true, false, not, _&&_, cond}
 use mathlib.Core.List.{List, [], _∷_, _++_, map}
-use Prim.Native.Nat.{ℕ, zero, suc, _+_, _/_}
+use Prim.Native.Nat.{ℕ, zero, suc, _+_}
 use lib.Dec.{eqb}
 use lib.ListN.{getD}
-use Rattle.literals.specs.Numbering.{defaultConjugate, judged}
+use Rattle.literals.specs.Numbering.{atomNumber, defaultConjugate, judged}
 use Rattle.papers.specs.Program.{Rule, Program, allRules, noRule}
 use Rattle.papers.specs.Content.{isAmong}
 
@@ -35,7 +35,7 @@ isFact (r ∷ more) o = let rest = isFact more o in cond (eqb (r .head) o) (cond
 -- "Neither abducible (nor its negation) nor the head of an empty-body rule." Part (c) asks besides that not(o) occurs in the
 -- program where o has no rule; here "any of these without rules gets 08 without folds, whether or not not(o) occurs in the file".
 unfoldable pub hasEntry : Program → ℕ → Bool
-hasEntry p o = not (isAmong (p .abducibles) (o / 2)) && not (isFact (allRules p) o)
+hasEntry p o = not (isAmong (p .abducibles) (atomNumber o)) && not (isFact (allRules p) o)
 
 -- "09 with the fold number and the default conjugate (not added or removed) of each body literal in order."
 unfoldable pub foldField : List Rule → ℕ → Field

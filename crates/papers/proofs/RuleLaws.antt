@@ -6,7 +6,8 @@ use Prim.Native.Nat.{ℕ, zero, suc, _+_, _-_, _*_, _≤_, _<_}
 use native.Mathlib.Omega.{arith}
 use lib.ListN.{length, getD, take, drop, length-append, length-map, List·getD-append}
 use lib.Seq.{getD-append-add}
-use Rattle.papers.specs.Program.{Rule, Program, denial, noRule, allRules}
+use Rattle.literals.specs.Numbering.{falsum, foldOfRule, foldOfIntegrity}
+use Rattle.papers.specs.Program.{Rule, Program, denial, noRule, allRules, ruleAt}
 use Rattle.papers.specs.Outcome.{accepted}
 use Rattle.papers.specs.Field.{number, numbers}
 use Rattle.papers.specs.Reading.{readFile}
@@ -25,35 +26,35 @@ rules-sum p = rw (length-append, length-map)
 pub rules-count : (p : Program) → length (allRules p) ≡ length (fieldNumbers p)
 rules-count p = let a = rules-sum p in let b = folds.fold-count p in omega arith
 
--- A rule is a rule of the file,
-pub rule-is : (p : Program) (i : ℕ) → i < length (p .rules) → getD (allRules p) i noRule ≡ getD (p .rules) i noRule
+-- "Rules have fold numbers from 0 in file order";
+pub fold-of-rule : (p : Program) (i : ℕ) → i < length (p .rules) → ruleAt p (foldOfRule i) ≡ getD (p .rules) i noRule
 unfolding allRules
-rule-is p i h = List·getD-append (p .rules) (map (denial (p .atoms)) (p .integrity)) noRule i h
+fold-of-rule p i h = List·getD-append (p .rules) (map (denial (p .atoms)) (p .integrity)) noRule i h
 
--- and those after them are its integrity rules, with falsum for their head.
-pub integrity-is : (p : Program) (j : ℕ) → j < length (p .integrity)
-    → getD (allRules p) (length (p .rules) + j) noRule ≡ denial (p .atoms) (getD (p .integrity) j [])
+-- "integrity rules go on from there", with falsum for their head.
+pub fold-of-integrity : (p : Program) (i : ℕ) → i < length (p .integrity)
+    → ruleAt p (foldOfIntegrity (length (p .rules)) i) ≡ denial (p .atoms) (getD (p .integrity) i [])
 unfolding allRules
-integrity-is p j h =
-    getD-append-add (p .rules) (map (denial (p .atoms)) (p .integrity)) j noRule ∙ getD-map-lt (denial (p .atoms)) (p .integrity) j noRule [] h
+fold-of-integrity p i h =
+    getD-append-add (p .rules) (map (denial (p .atoms)) (p .integrity)) i noRule ∙ getD-map-lt (denial (p .atoms)) (p .integrity) i noRule [] h
 
--- The same by fold number.
+-- The same from the fold number.
 pub later-is : (p : Program) (i : ℕ) → length (p .rules) ≤ i → i < length (allRules p)
     → getD (allRules p) i noRule ≡ denial (p .atoms) (getD (p .integrity) (i - length (p .rules)) [])
 later-is p i g h =
     let sum = rules-sum p in
     let q : length (p .rules) + (i - length (p .rules)) ≡ i = omega arith in
-    rw q at (integrity-is p (i - length (p .rules)) (omega arith))
+    rw q at (fold-of-integrity p (i - length (p .rules)) (omega arith))
 
 -- "Head falsum."
-pub integrity-head : (p : Program) (i : ℕ) → length (p .rules) ≤ i → i < length (allRules p) → (getD (allRules p) i noRule) .head ≡ 2 * p .atoms
+pub integrity-head : (p : Program) (i : ℕ) → length (p .rules) ≤ i → i < length (allRules p) → (getD (allRules p) i noRule) .head ≡ falsum (p .atoms)
 integrity-head p i g h = rw (later-is p i g h)
 
 -- ---- of a valid program
 
 -- A head is an objective literal, falsum or below it, and a body is one of the file's.
 pub record Fits (n : ℕ) (r : Rule) : Type 0 where
-  pub headed : r .head ≤ 2 * n
+  pub headed : r .head ≤ falsum n
   pub body : ValidBody n (r .body)
 
 pub all-append : {A : Type 0} {P : A → Type 0} {a b : List A} → All P a → All P b → All P (a ++ b)
@@ -79,7 +80,7 @@ rules-fit p v =
 pub rule-fitting : (p : Program) → Valid p → (i : ℕ) → i < length (allRules p) → Fits (p .atoms) (getD (allRules p) i noRule)
 rule-fitting p v i h = all-at (rules-fit p v) i noRule h
 
-pub head-within : (p : Program) → Valid p → (i : ℕ) → i < length (allRules p) → (getD (allRules p) i noRule) .head ≤ 2 * p .atoms
+pub head-within : (p : Program) → Valid p → (i : ℕ) → i < length (allRules p) → (getD (allRules p) i noRule) .head ≤ falsum (p .atoms)
 head-within p v i h = rule-fitting p v i h .headed
 
 -- ---- in the file
@@ -109,7 +110,7 @@ module _ (bytes : List ℕ) (p : Program) (b : Bytes bytes) (e : readFile bytes 
         ordered = omega arith;
         within = within;
       } in
-      rw (rule-is p i h) here
+      rw (fold-of-rule p i h) here
 
   -- an integrity rule's after a heading.
   pub integrity-part : (i : ℕ) → length (p .rules) ≤ i → i < length (allRules p)
@@ -135,4 +136,4 @@ module _ (bytes : List ℕ) (p : Program) (b : Bytes bytes) (e : readFile bytes 
 
   pub rule-head : (i : ℕ) → i < length (p .rules)
       → number (getD bytes (foldPlace p i + 3) 0) (getD bytes (foldPlace p i + 4) 0) ≡ (getD (allRules p) i noRule) .head
-  rule-head i h = rw (rule-is p i h) (folds.rule-head bytes p b e i noRule h)
+  rule-head i h = rw (fold-of-rule p i h) (folds.rule-head bytes p b e i noRule h)

@@ -1,8 +1,9 @@
 -- The tests of a field's content, in the order of document 01. A list of checks is the number of the first that fails, or 0.
 use mathlib.Core.Bool.{Bool, true, false, not, cond}
 use mathlib.Core.List.{List, [], _∷_}
-use Prim.Native.Nat.{ℕ, _+_, _*_, _/_}
+use Prim.Native.Nat.{ℕ, _+_, _*_}
 use lib.Dec.{eqb, leb, ltb}
+use Rattle.literals.specs.Numbering.{atomNumber, listed}
 use Rattle.papers.specs.Outcome.{check}
 
 -- 4: "value is not 1".
@@ -32,7 +33,7 @@ isAmong (a ∷ more) atom = cond (eqb a atom) true (isAmong more atom)
 unfoldable pub ruleFault : ℕ → List ℕ → List ℕ → ℕ
 ruleFault n abducibles [] = 0
 ruleFault n abducibles (head ∷ body) =
-    check (ltb head (2 * n)) 6 (check (not (isAmong abducibles (head / 2))) 8 (literalsFault n body))
+    check (listed n head) 6 (check (not (isAmong abducibles (atomNumber head))) 8 (literalsFault n body))
 
 -- The test of a rule's or an integrity rule's numbers, by its tag.
 unfoldable pub bodyFault : ℕ → ℕ → List ℕ → List ℕ → ℕ

@@ -1,7 +1,8 @@
 -- The abstract syntax of the two papers: what a file and a sheet say, without bytes.
 use mathlib.Core.List.{List, [], _++_, map}
-use Prim.Native.Nat.{ℕ, _*_}
+use Prim.Native.Nat.{ℕ}
 use lib.ListN.{getD}
+use Rattle.literals.specs.Numbering.{falsum}
 
 -- A rule: its head, an objective literal, and its body literals.
 pub record Rule : Type 0 where
@@ -21,7 +22,7 @@ Query = List ℕ
 
 -- An integrity rule as a rule: its head is falsum, 2n.
 abbrev pub denial : ℕ → List ℕ → Rule
-denial n body = record { head = 2 * n; body = body }
+denial n body = record { head = falsum n; body = body }
 
 -- "Rules have fold numbers from 0 in file order; integrity rules go on from there": a fold number is an index here.
 unfoldable pub allRules : Program → List Rule

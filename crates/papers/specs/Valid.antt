@@ -2,8 +2,9 @@
 use mathlib.Core.Path.{_≡_}
 use mathlib.Core.Bool.{false}
 use mathlib.Core.List.{List, [], _∷_}
-use Prim.Native.Nat.{ℕ, _+_, _*_, _/_, _≤_, _<_}
+use Prim.Native.Nat.{ℕ, _+_, _*_, _≤_, _<_}
 use lib.ListN.{length}
+use Rattle.literals.specs.Numbering.{atomNumber, falsum}
 use Rattle.papers.specs.Program.{Rule, Program}
 use Rattle.papers.specs.Content.{isAmong}
 
@@ -22,10 +23,10 @@ pub record ValidBody (n : ℕ) (body : List ℕ) : Type 0 where
   pub few : length body ≤ 16
   pub listed : All (_< 4 * n) body
 
--- A rule: a head below 2n that is no abducible or its negation, and a body.
+-- A rule: a head below falsum, 2n, that is no abducible or its negation, and a body.
 pub record ValidRule (n : ℕ) (abducibles : List ℕ) (r : Rule) : Type 0 where
-  pub listed : r .head < 2 * n
-  pub free : isAmong abducibles (r .head / 2) ≡ false
+  pub listed : r .head < falsum n
+  pub free : isAmong abducibles (atomNumber (r .head)) ≡ false
   pub body : ValidBody n (r .body)
 
 pub record Valid (p : Program) : Type 0 where
