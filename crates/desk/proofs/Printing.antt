@@ -1,13 +1,13 @@
 -- What the desk program hands to `write`.
 -- Assumes nothing.
-use mathlib.Core.Path.{_≡_, ap, _∙_}
+use mathlib.Core.Path.{_≡_, _∙_}
 use mathlib.Core.List.{List, _++_}
 use Prim.Native.Nat.{ℕ, _+_, _≤_}
 use native.Mathlib.Omega.{arith}
 use native.Mathlib.Nat.{zero-add}
 use lib.ListN.{length, take, drop}
 use lib.Seq.{take-append-seam}
-use Rattle.report.specs.Text.{written, Put}
+use Rattle.report.specs.Text.{Put}
 use Rattle.report.proofs.Putting.{written-fits}
 
 -- Of a text put at a buffer's start that ends within it, the bytes before the end are the text: not one more, and not one less.

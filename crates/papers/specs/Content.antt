@@ -1,9 +1,9 @@
 -- The tests of a field's content, in the order of document 01. A list of checks is the number of the first that fails, or 0.
 use mathlib.Core.Bool.{Bool, true, false, not, cond}
 use mathlib.Core.List.{List, [], _∷_}
-use Prim.Native.Nat.{ℕ, _+_, _*_}
+use Prim.Native.Nat.{ℕ, _+_}
 use lib.Dec.{eqb, leb, ltb}
-use Rattle.literals.specs.Numbering.{atomNumber, listed}
+use Rattle.literals.specs.Numbering.{atomNumber, listed, literalListed}
 use Rattle.papers.specs.Outcome.{check}
 
 -- 4: "value is not 1".
@@ -22,7 +22,7 @@ abduciblesFault n least (a ∷ more) = check (ltb a n) 6 (check (leb least a) 7 
 -- "Each literal is tested by 6": below 4n.
 unfoldable pub literalsFault : ℕ → List ℕ → ℕ
 literalsFault n [] = 0
-literalsFault n (l ∷ more) = check (ltb l (4 * n)) 6 (literalsFault n more)
+literalsFault n (l ∷ more) = check (literalListed n l) 6 (literalsFault n more)
 
 -- Whether an atom is among the abducibles.
 unfoldable pub isAmong : List ℕ → ℕ → Bool

@@ -1,6 +1,5 @@
 -- `dual::entries::rules_length` meets its contract. The loop's invariant: what the walk answers from the start is what it answers from here.
 -- Assumes nothing.
-use borrow.Author.Needs.{needs}
 use mathlib.Core.Path.{_∙_}
 use mathlib.Core.List.{List}
 use Prim.Native.Nat.{ℕ, _-_, _≤_, _<_}
