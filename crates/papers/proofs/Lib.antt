@@ -23,3 +23,5 @@ pub mod FileAnswers
 pub mod FileFacts
 pub mod FoldAnswers
 pub mod PapersAnswers
+-- What is told of an answer fixes it.
+pub mod ToldLaws

@@ -1,5 +1,8 @@
-// What is read of the two papers, and what refuses them. The definitions of reading stand in specs/, their laws in proofs/; the
-// functions are in the crates fields, reading and folds.
+// What is read of the two papers, and what refuses a call. The definitions of reading stand in specs/, their laws in proofs/; the
+// functions that read are in the crates fields, reading and folds.
+ghost use mathlib.Core.Path.{_≡_};
+ghost use Rattle.papers.specs.Told.{bareNumber};
+
 pub enum Paper {
     File,
     Sheet,
@@ -10,6 +13,26 @@ pub struct Refusal {
     pub number: u8,
     pub paper: Paper,
     pub place: usize,
+}
+
+// Document 01's refusals that name no paper and no place.
+pub enum Bare {
+    ShortDual,
+    ShortModel,
+    NoScenario,
+    SpoiltSearch,
+}
+
+// Their numbers.
+pub fn bare_number(bare: Bare) -> u8
+    ensures { λ r. ⌜ r ≡ bareNumber bare ⌝ }
+{
+    match bare {
+        Bare::ShortDual => 11,
+        Bare::ShortModel => 12,
+        Bare::NoScenario => 13,
+        Bare::SpoiltSearch => 14,
+    }
 }
 
 // A field that was read: where its content starts and ends.

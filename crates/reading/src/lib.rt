@@ -6,7 +6,8 @@ ghost use mathlib.Core.Path.{_≡_};
 ghost use Prim.Native.Nat.{_≤_};
 ghost use lib.ListN.{length, drop};
 ghost use Rattle.papers.specs.Reading.{readFile, readSheet, readPapers};
-ghost use Rattle.papers.specs.Answers.{countAnswer, fileAnswer, papersAnswer, restOf, partStart, restStart};
+ghost use Rattle.papers.specs.Answers.{countAnswer, contentsOf, restOf, partStart, restStart};
+ghost use Rattle.papers.specs.Told.{readTold, fileTold, papersOf, papersTold};
 use fields::content::literals_fault;
 use fields::field::read_field;
 use file::read_abducibles;
@@ -24,7 +25,7 @@ use papers::Refusal;
 
 // The file alone.
 pub fn read_file(file: &[u8]) -> FileRead
-    ensures { λ r. ⌜ r ≡ fileAnswer (readFile (now (file .entry))) ⌝ }
+    ensures { λ r. ⌜ fileTold r ≡ readTold contentsOf (readFile (now (file .entry))) ⌝ }
 {
     let edition = read_edition(file);
     let NumberRead::Number(_) = edition else {
@@ -78,7 +79,7 @@ fn read_sheet(sheet: &[u8], atoms: u16) -> NumberRead
 
 // Both papers, the file first.
 pub fn read_papers(file: &[u8], sheet: &[u8]) -> PapersRead
-    ensures { λ r. ⌜ r ≡ papersAnswer (readPapers (now (file .entry)) (now (sheet .entry))) ⌝ }
+    ensures { λ r. ⌜ papersTold r ≡ readTold papersOf (readPapers (now (file .entry)) (now (sheet .entry))) ⌝ }
 {
     let program = read_file(file);
     let FileRead::Accepted(contents) = program else {

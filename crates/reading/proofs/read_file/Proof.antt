@@ -10,6 +10,7 @@ use Rattle.papers.specs.Outcome.{accepted}
 use Rattle.papers.specs.Reading.{readEdition, readAtoms, readAbducibles}
 use Rattle.papers.proofs.Answered.{Listed, number-accepted, number-refused, count-accepted, count-refused}
 use Rattle.papers.proofs.FileAnswers.{file-edition, edition-within, file-atoms, atoms-within, file-abducibles, listed-are, file-rules}
+use Rattle.papers.proofs.ToldLaws.{file-tells}
 use borrow.Author.Needs.{needs}
 use Rattle.reading.proofs.read_file.Statement.{statement}
 use Rattle.reading.proofs.read_file.Tie as tie
@@ -74,8 +75,9 @@ returns c = search needs
 returns-2 : tie.Need-returns-2
 returns-2 c =
     let asked = c .before .before .before .before .before .before in
-    file-edition (now (asked .before .before .args .file))
-    (number-refused _ (asked .read-edition .ensures) (c .before .before .before .before .edition .given .1 ∙ c .before .edition2 .given .1))
+    file-tells _
+    (file-edition (now (asked .before .before .args .file))
+    (number-refused _ (asked .read-edition .ensures) (c .before .before .before .before .edition .given .1 ∙ c .before .edition2 .given .1)))
 
 read-atoms-requires : tie.Need-read-atoms-requires
 read-atoms-requires c κs = edition-within (file c) (edition-read c)
@@ -102,8 +104,9 @@ returns-4 : tie.Need-returns-4
 returns-4 c =
     let asked = c .before .before .before .before .before .before in
     let edition = asked .before in
-    file-atoms (file edition) (edition-read edition)
-    (number-refused _ (asked .read-atoms .ensures) (c .before .before .before .before .counted2 .given .1 ∙ c .before .counted3 .given .1))
+    file-tells _
+    (file-atoms (file edition) (edition-read edition)
+    (number-refused _ (asked .read-atoms .ensures) (c .before .before .before .before .counted2 .given .1 ∙ c .before .counted3 .given .1)))
 
 cast-read-abducibles : tie.Need-cast-read-abducibles
 cast-read-abducibles c = omega (arith, within c .1)
@@ -134,8 +137,9 @@ returns-6 c =
     let asked = c .before .before .before .before .before .before in
     let known = asked .before in
     let edition = opened known in
-    file-abducibles (file edition) (edition-read edition) (atoms-read known)
-    (count-refused _ (asked .read-abducibles .ensures) (c .before .before .before .before .listed2 .given .1 ∙ c .before .listed3 .given .1))
+    file-tells _
+    (file-abducibles (file edition) (edition-read edition) (atoms-read known)
+    (count-refused _ (asked .read-abducibles .ensures) (c .before .before .before .before .listed2 .given .1 ∙ c .before .listed3 .given .1)))
 
 cast-read-rules : tie.Need-cast-read-rules
 cast-read-rules c = omega (arith, within (counted c) .1)
@@ -149,7 +153,7 @@ returns-7 : tie.Need-returns-7
 returns-7 c =
     let known = counted (c .before) in
     let edition = opened known in
-    c .read-rules .ensures ∙ file-rules (file edition) (edition-read edition) (atoms-read known) (listed (c .before))
+    file-tells _ (c .read-rules .ensures ∙ file-rules (file edition) (edition-read edition) (atoms-read known) (listed (c .before)))
 
 pub read-file-spec : {M : Type 1} → statement M
 read-file-spec =

@@ -7,6 +7,7 @@ use denote.Ref.{now}
 use Rattle.papers.specs.Reading.{readFile}
 use Rattle.papers.proofs.Answered.{Filed, file-accepted, file-refused, count-accepted, count-refused}
 use Rattle.papers.proofs.FileAnswers.{papers-file, papers-sheet, papers-both}
+use Rattle.papers.proofs.ToldLaws.{file-told, papers-tells}
 use borrow.Author.Needs.{needs}
 use Rattle.reading.proofs.read_papers.Statement.{statement}
 use Rattle.reading.proofs.read_papers.Tie as tie
@@ -27,7 +28,7 @@ module _ (c : tie.After-known-told) where
   sheet = now (start .args .sheet)
 
   filed : Filed (readFile file) (c .before .program .given .0 .0)
-  filed = file-accepted _ (asked .read-file .ensures) (c .before .program .given .1)
+  filed = file-accepted _ (file-told _ (asked .read-file .ensures)) (c .before .program .given .1)
 
 read-file-requires : tie.Need-read-file-requires
 read-file-requires c κs = search needs
@@ -51,7 +52,9 @@ returns-2 : tie.Need-returns-2
 returns-2 c =
     let asked = c .before .before .before .before .before .before in
     let a = asked .before .before .before .args in
-    papers-file (now (a .file)) (now (a .sheet)) (file-refused _ (asked .read-file .ensures) (c .before .before .before .before .program2 .given .1 ∙ c .before .program3 .given .1))
+    papers-tells _
+    (papers-file (now (a .file)) (now (a .sheet))
+    (file-refused _ (file-told _ (asked .read-file .ensures)) (c .before .before .before .before .program2 .given .1 ∙ c .before .program3 .given .1)))
 
 read-sheet-requires : tie.Need-read-sheet-requires
 read-sheet-requires c κs = search needs
@@ -75,13 +78,15 @@ returns-4 : tie.Need-returns-4
 returns-4 c =
     let asked = c .before .before .before .before .before .before in
     let f = asked .before in
-    papers-sheet (file f) (sheet f) (filed f) (count-refused _ (asked .read-sheet .ensures) (c .before .before .before .before .query2 .given .1 ∙ c .before .query3 .given .1))
+    papers-tells _
+    (papers-sheet (file f) (sheet f) (filed f)
+    (count-refused _ (asked .read-sheet .ensures) (c .before .before .before .before .query2 .given .1 ∙ c .before .query3 .given .1)))
 
 returns-5 : tie.Need-returns-5
 returns-5 c =
     let asked = c .before .before .before in
     let f = asked .before in
-    papers-both (file f) (sheet f) (filed f) (count-accepted _ (asked .read-sheet .ensures) (c .before .query .given .1))
+    papers-tells _ (papers-both (file f) (sheet f) (filed f) (count-accepted _ (asked .read-sheet .ensures) (c .before .query .given .1)))
 
 pub read-papers-spec : {M : Type 1} → statement M
 read-papers-spec =

@@ -7,6 +7,7 @@ use lib.Seq.{drop-length}
 use Rattle.papers.specs.Reading.{readPapers}
 use Rattle.papers.proofs.Answered.{papers-accepted, papers-refused}
 use Rattle.papers.proofs.Placed.{refused-within}
+use Rattle.papers.proofs.ToldLaws.{papers-told}
 use borrow.Author.Needs.{needs}
 use Rattle.reading.proofs.rest_of_paper.Statement.{statement}
 use Rattle.reading.proofs.rest_of_paper.Tie as tie
@@ -27,7 +28,7 @@ returns : tie.Need-returns
 returns c =
     let read = c .before .before .before in
     let a = read .before .before .before .args in
-    let q = papers-accepted (readPapers (now (a .file)) (now (a .sheet))) (read .read-papers .ensures) (c .before .enum-told .given .1) in
+    let q = papers-accepted (readPapers (now (a .file)) (now (a .sheet))) (papers-told _ (read .read-papers .ensures)) (c .before .enum-told .given .1) in
     rw (q .is) (c .part-from .ensures .0 ∙ drop-length (now (a .sheet)), c .part-from .ensures .1 (omega arith))
 
 enum-told-2 : tie.Need-enum-told-2
@@ -46,7 +47,7 @@ returns-2 : tie.Need-returns-2
 returns-2 c =
     let read = c .before .before .before .before .before .before in
     let a = read .before .before .before .args in
-    let e = papers-refused (readPapers (now (a .file)) (now (a .sheet))) (read .read-papers .ensures) (c .before .before .before .before .read .given .1) in
+    let e = papers-refused (readPapers (now (a .file)) (now (a .sheet))) (papers-told _ (read .read-papers .ensures)) (c .before .before .before .before .read .given .1) in
     let paper = c .before .enum-told2 .given .1 in
     let within = rw paper at (refused-within (now (a .file)) (now (a .sheet)) _ e) in
     rw (e, paper) (c .part-from2 .ensures .0, c .part-from2 .ensures .1 within)
@@ -55,7 +56,7 @@ returns-3 : tie.Need-returns-3
 returns-3 c =
     let read = c .before .before .before .before .before .before in
     let a = read .before .before .before .args in
-    let e = papers-refused (readPapers (now (a .file)) (now (a .sheet))) (read .read-papers .ensures) (c .before .before .before .before .read .given .1) in
+    let e = papers-refused (readPapers (now (a .file)) (now (a .sheet))) (papers-told _ (read .read-papers .ensures)) (c .before .before .before .before .read .given .1) in
     let paper = c .before .enum-told3 .given .1 in
     let within = rw paper at (refused-within (now (a .file)) (now (a .sheet)) _ e) in
     rw (e, paper) (c .part-from3 .ensures .0, c .part-from3 .ensures .1 within)
