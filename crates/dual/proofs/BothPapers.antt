@@ -19,13 +19,16 @@ use Rattle.papers.specs.Field.{numbers}
 use Rattle.papers.specs.Outcome.{Outcome, accepted}
 use Rattle.papers.specs.Reading.{readPapers, programIn, Papers}
 use Rattle.papers.specs.Answers.{papersAnswer}
+use Rattle.papers.specs.declared.Bare.the-variants as bare
+use Rattle.papers.specs.Told.{tells, bareTold}
 use Rattle.papers.proofs.NumberLaws.{Bytes}
 use Rattle.papers.proofs.Answered.{papers-accepted}
 use Rattle.papers.proofs.PapersAnswers.{BothTold}
 use Rattle.dual.proofs.DualWritten.{the-type}
 use Rattle.dual.specs.declared.DualWritten.{DualWritten}
 use Rattle.dual.specs.declared.DualWritten.the-variants.{Length, Short, Refused}
-use Rattle.dual.specs.Answers.{dualOf, dualAnswer, dualAfter, filled}
+use Rattle.dual.specs.Answers.{dualOf, writtenTold, dualTold, dualAfter, filled}
+use Rattle.dual.proofs.ToldLaws.{writtenFrom, written-from}
 use Rattle.papers.proofs.FileFacts.{program-valid, abducibles-are}
 
 -- ---- the papers
@@ -74,22 +77,30 @@ other-told (Length m) k n e = ⊎-elim (λ (h : _≡_ {A = ℕ} 0 1). omega arit
 other-told Short k n e = let z : _≡_ {A = ℕ} 0 1 = cc in omega arith
 other-told (Refused r) k n e = let z : _≡_ {A = ℕ} 0 1 = cc in omega arith
 
-module _ {p : Program} {o : Outcome Program} (is : o ≡ accepted p) (dual : List ℕ) {told : DualWritten} (answer : told ≡ dualAnswer o (length dual)) where
+-- What writing has to tell, by whether it fits.
+told-by : {p : Program} {o : Outcome Program} → o ≡ accepted p → (room : ℕ) (b : Bool) → leb (length (dualOf p)) room ≡ b
+    → dualTold o room ≡ cond b (tells (length (dualOf p))) (bareTold bare.ShortDual)
+unfolding dualTold
+told-by is room b h = rw (is, h)
+
+module _ {p : Program} {o : Outcome Program} (is : o ≡ accepted p) (dual : List ℕ) {written : DualWritten}
+    (told : writtenTold written ≡ dualTold o (length dual)) where
   -- It was written, or can be.
-  pub dual-fits : {n : ℕ} → told ≡ Length n → length (dualOf p) ≤ length dual
-  dual-fits {n} e = go (leb (length (dualOf p)) (length dual)) refl (sym e ∙ answer ∙ ap (λ (x : Outcome Program). dualAnswer x (length dual)) is)
+  pub dual-fits : {n : ℕ} → written ≡ Length n → length (dualOf p) ≤ length dual
+  unfolding writtenTold bareTold
+  dual-fits {n} e = go (leb (length (dualOf p)) (length dual)) refl
     where
-      go : (b : Bool) → leb (length (dualOf p)) (length dual) ≡ b → Length n ≡ cond b (Length (length (dualOf p))) Short → length (dualOf p) ≤ length dual
-      go true h q = leb-true (length (dualOf p)) (length dual) h
-      go false h q = absurd (let z : _≡_ {A = ℕ} 0 1 = cc in omega arith)
+      go : (b : Bool) → leb (length (dualOf p)) (length dual) ≡ b → length (dualOf p) ≤ length dual
+      go true h = leb-true (length (dualOf p)) (length dual) h
+      go false h = absurd (let q = sym (ap writtenTold e) ∙ told ∙ told-by is (length dual) false h in let z : _≡_ {A = ℕ} 0 1 = cc in omega arith)
 
   -- There is no room for it.
-  pub dual-short : ((n : ℕ) → told ≡ Length n → ⊥) → length dual < length (dualOf p)
-  dual-short none = go (leb (length (dualOf p)) (length dual)) refl (answer ∙ ap (λ (x : Outcome Program). dualAnswer x (length dual)) is)
+  pub dual-short : ((n : ℕ) → written ≡ Length n → ⊥) → length dual < length (dualOf p)
+  dual-short none = go (leb (length (dualOf p)) (length dual)) refl
     where
-      go : (b : Bool) → leb (length (dualOf p)) (length dual) ≡ b → told ≡ cond b (Length (length (dualOf p))) Short → length dual < length (dualOf p)
-      go true h q = absurd (none (length (dualOf p)) q)
-      go false h q = leb-false (length (dualOf p)) (length dual) h
+      go : (b : Bool) → leb (length (dualOf p)) (length dual) ≡ b → length dual < length (dualOf p)
+      go true h = absurd (none (length (dualOf p)) (sym (written-from written) ∙ ap writtenFrom (told ∙ told-by is (length dual) true h)))
+      go false h = leb-false (length (dualOf p)) (length dual) h
 
 -- The lent buffer afterwards.
 module _ {p : Program} {o : Outcome Program} (is : o ≡ accepted p) (allowed : Bool) (dual : List ℕ) {after : List ℕ}

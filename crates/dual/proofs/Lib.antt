@@ -10,4 +10,6 @@ pub mod WritingLaws
 pub mod EntryWriting
 pub mod TableWriting
 pub mod EntryLaws
+-- What is told of an answer fixes it.
+pub mod ToldLaws
 pub mod BothPapers

@@ -13,11 +13,12 @@ use Rattle.papers.specs.Program.{Program, allRules}
 use Rattle.papers.specs.Outcome.{accepted}
 use Rattle.papers.specs.Reading.{readFile}
 use Rattle.papers.specs.Encoding.{encodeField}
+use Rattle.papers.specs.Told.{tells}
 use Rattle.dual.specs.Table.{Field, hasEntry, entry, entryIfAny, entriesFrom, dual}
 use Rattle.dual.specs.Encoding.{encodeFields, encodeDual}
 use Rattle.dual.specs.Length.{rulesLength, dualLength}
 use Rattle.dual.specs.declared.DualWritten.the-variants.{Length, Short}
-use Rattle.dual.specs.Answers.{dualOf, dualAnswer, filled, dualAfter}
+use Rattle.dual.specs.Answers.{dualOf, writtenTold, dualTold, filled, dualAfter}
 use Rattle.dual.proofs.Lengths.{dual-length}
 use Rattle.dual.proofs.ReadBack.{encodeFields-append}
 use Rattle.dual.proofs.FilledLaws.{filled-part}
@@ -126,7 +127,8 @@ module _ (bytes buffer : List ℕ) (p : Program) (is : readFile bytes ≡ accept
   same-size = dual-length p ∙ sym sized
 
   pub dual-short : (allowed : Bool) → length buffer < size
-      → (Short ≡ dualAnswer (readFile bytes) (length buffer)) × (buffer ≡ cond allowed (dualAfter (readFile bytes) buffer) buffer)
+      → (writtenTold Short ≡ dualTold (readFile bytes) (length buffer)) × (buffer ≡ cond allowed (dualAfter (readFile bytes) buffer) buffer)
+  unfolding writtenTold dualTold
   dual-short allowed h =
       let t : leb (length (dualOf p)) (length buffer) ≡ false = rw same-size (lt-leb size (length buffer) h) in
       (rw (is, t), rw (is, t) (go allowed)) where
@@ -135,10 +137,11 @@ module _ (bytes buffer : List ℕ) (p : Program) (is : readFile bytes ≡ accept
         go false = refl
 
   -- Where it fits, the answer is its length, whether it is written or not.
-  pub dual-length-is : size ≤ length buffer → Length size ≡ dualAnswer (readFile bytes) (length buffer)
+  pub dual-length-is : size ≤ length buffer → writtenTold (Length size) ≡ dualTold (readFile bytes) (length buffer)
+  unfolding writtenTold dualTold
   dual-length-is h =
       let t : leb (length (dualOf p)) (length buffer) ≡ true = rw same-size (le-leb size (length buffer) h) in
-      rw (is, t) (ap Length (sym same-size))
+      rw (is, t) (ap tells (sym same-size))
 
   pub dual-fits : size ≤ length buffer → (after : List ℕ) → after ≡ filled (dualOf p) buffer → after ≡ dualAfter (readFile bytes) buffer
   dual-fits h after e =

@@ -8,7 +8,7 @@ ghost use mathlib.Core.Bool.{cond};
 ghost use lib.ListN.{length};
 ghost use Rattle.papers.specs.Reading.{readFile};
 ghost use Rattle.papers.specs.Places.{Walked};
-ghost use Rattle.dual.specs.Answers.{dualAnswer, dualAfter};
+ghost use Rattle.dual.specs.Answers.{writtenTold, dualTold, dualAfter};
 use chains::fold_chains;
 use entries::dual_length;
 use entries::write_entries;
@@ -33,7 +33,7 @@ pub fn write_accepted(
     allowed: bool,
 ) -> DualWritten
     requires { ⌜ Walked (now file) contents (now places) ⌝ }
-    ensures { λ r. ⌜ (r ≡ dualAnswer (readFile (now (file .entry))) (length (now (dual .entry)))) × (now (dual .exit) ≡ cond allowed (dualAfter (readFile (now (file .entry))) (now (dual .entry))) (now (dual .entry))) ⌝ }
+    ensures { λ r. ⌜ (writtenTold r ≡ dualTold (readFile (now (file .entry))) (length (now (dual .entry)))) × (now (dual .exit) ≡ cond allowed (dualAfter (readFile (now (file .entry))) (now (dual .entry))) (now (dual .entry))) ⌝ }
 {
     let chains = fold_chains(file, contents, places);
     let first = chains.first;
@@ -51,7 +51,7 @@ pub fn write_accepted(
 }
 
 pub fn write_dual(file: &[u8], dual: &mut [u8]) -> DualWritten
-    ensures { λ r. ⌜ (r ≡ dualAnswer (readFile (now (file .entry))) (length (now (dual .entry)))) × (now (dual .exit) ≡ dualAfter (readFile (now (file .entry))) (now (dual .entry))) ⌝ }
+    ensures { λ r. ⌜ (writtenTold r ≡ dualTold (readFile (now (file .entry))) (length (now (dual .entry)))) × (now (dual .exit) ≡ dualAfter (readFile (now (file .entry))) (now (dual .entry))) ⌝ }
 {
     let read = reading::read_file(file);
     let FileRead::Accepted(contents) = read else {

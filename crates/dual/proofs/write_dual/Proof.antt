@@ -4,6 +4,8 @@ use mathlib.Core.Path.{sym, _∙_}
 use denote.Ref.{now}
 use Rattle.papers.specs.Reading.{readFile}
 use Rattle.papers.proofs.Answered.{file-refused}
+use Rattle.papers.proofs.ToldLaws.{file-told}
+use Rattle.dual.specs.Answers.{writtenTold, dualTold}
 use borrow.Author.Needs.{needs}
 use Rattle.dual.proofs.write_dual.Statement.{statement}
 use Rattle.dual.proofs.write_dual.Tie as tie
@@ -27,10 +29,16 @@ returns : tie.Need-returns
 returns c = search needs
 
 returns-2 : tie.Need-returns-2
-returns-2 c = let e = file-refused (readFile (now (c .before .before .before .before .before .before .before .before .before .args .file))) (c .before .before .before .before .before .before .read-file .ensures) (c .before .before .before .before .read2 .given .1 ∙ c .before .read3 .given .1) in (rw e, rw e)
+unfolding writtenTold dualTold
+returns-2 c =
+    let other = c .before .before .before .before in
+    let read = other .before .before in
+    let file = read .before .before .before .args .file in
+    let e = file-refused (readFile (now file)) (file-told _ (read .read-file .ensures)) (other .read2 .given .1 ∙ c .before .read3 .given .1) in
+    (rw e, rw e)
 
 fold-places-requires : tie.Need-fold-places-requires
-fold-places-requires c κs = sym (c .before .before .before .read-file .ensures) ∙ c .before .read .given .1
+fold-places-requires c κs = sym (file-told _ (c .before .before .before .read-file .ensures)) ∙ c .before .read .given .1
 
 write-accepted-requires : tie.Need-write-accepted-requires
 write-accepted-requires c κs = search needs

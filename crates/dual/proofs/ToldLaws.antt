@@ -1,0 +1,24 @@
+-- What is told of the dual fixes the answer: it is found again from that.
+-- Assumes nothing.
+use mathlib.Core.Path.{_≡_, refl, sym, ap, _∙_}
+use Prim.Native.Nat.{ℕ}
+use Rattle.papers.specs.Outcome.{refusal}
+use Rattle.papers.specs.Told.{Told, tells, refusedBy, refusedAt, bareTold, refusalTold}
+use Rattle.dual.specs.declared.DualWritten.{DualWritten}
+use Rattle.dual.specs.declared.DualWritten.the-variants.{Length, Short, Refused}
+use Rattle.dual.specs.Answers.{writtenTold}
+
+-- Writing is refused by one number that names no paper.
+abbrev pub writtenFrom : Told ℕ → DualWritten
+writtenFrom (tells n) = Length n
+writtenFrom (refusedBy n) = Short
+writtenFrom (refusedAt n paper place) = Refused (refusal n paper place)
+
+pub written-from : (r : DualWritten) → writtenFrom (writtenTold r) ≡ r
+unfolding writtenTold bareTold refusalTold
+written-from (Length n) = refl
+written-from Short = refl
+written-from (Refused r) = refl
+
+pub written-fixed : {r s : DualWritten} → writtenTold r ≡ writtenTold s → r ≡ s
+written-fixed {r} {s} e = sym (written-from r) ∙ ap writtenFrom e ∙ written-from s
