@@ -19,7 +19,7 @@ use Rattle.lanes.specs.RoundLanes.{SettledLanes}
 use Rattle.lanes.specs.VerdictLanes.{VerdictLanes}
 use Rattle.judging.specs.declared.Judged.{Judged}
 use Rattle.judging.specs.declared.Judged.the-variants.{Verdict, ShortDual, ShortModel, NoScenario, Refused}
-use Rattle.judging.specs.Judging.{scenarioCount, hindrance, judgeAnswer, dualJudged, modelJudged}
+use Rattle.judging.specs.Judging.{scenarioCount, judgedTold, hindrance, judgeTold, dualJudged, modelJudged}
 use Rattle.judging.proofs.ValueLaws.{first-lane, first-bytes}
 
 -- ---- the first lane
@@ -46,23 +46,24 @@ first-filled p s n trues falses counts before after e l h =
 -- What `judge` ensures.
 abbrev pub Judges : Outcome Papers → ℕ → List ℕ → List ℕ → Judged → List ℕ → List ℕ → Type 0
 Judges read s dual model r dual′ model′ =
-    (r ≡ judgeAnswer read s (length dual) (length model)) × ((dual′ ≡ dualJudged read s dual model) × (model′ ≡ modelJudged read s dual model))
+    (judgedTold r ≡ judgeTold read s (length dual) (length model)) × ((dual′ ≡ dualJudged read s dual model) × (model′ ≡ modelJudged read s dual model))
 
 -- 1 to 10.
 pub judged-refused : {read : Outcome Papers} {r : Refusal} → read ≡ refused r → (s : ℕ) (dual model : List ℕ)
     → Judges read s dual model (Refused r) dual model
+unfolding judgedTold judgeTold
 judged-refused e s dual model = (rw e, (rw e, rw e))
 
 module _ (q : Papers) {read : Outcome Papers} (is : read ≡ accepted q) (s : ℕ) (dual model : List ℕ) {dual′ : List ℕ} where
   -- 11.
   pub judged-short : length dual < length (dualOf (q .program)) → dual′ ≡ dual → Judges read s dual model ShortDual dual′ model
-  unfolding hindrance
+  unfolding judgedTold judgeTold hindrance
   judged-short h e = let x = lt-ltb (length dual) (length (dualOf (q .program))) h in (rw (is, x), (rw (is, x) e, rw (is, x)))
 
   module _ (fits : length (dualOf (q .program)) ≤ length dual) where
     -- 12.
     pub judged-small : length model < judged (q .program .atoms) → dual′ ≡ dual → Judges read s dual model ShortModel dual′ model
-    unfolding hindrance
+    unfolding judgedTold judgeTold hindrance
     judged-small h e =
         let x = le-ltb (length dual) (length (dualOf (q .program))) fits in
         let y = lt-ltb (length model) (judged (q .program .atoms)) h in
@@ -71,7 +72,7 @@ module _ (q : Papers) {read : Outcome Papers} (is : read ≡ accepted q) (s : �
     module _ (room : judged (q .program .atoms) ≤ length model) where
       -- 13.
       pub judged-past : scenarioCount (q .program) ≤ s → dual′ ≡ dual → Judges read s dual model NoScenario dual′ model
-      unfolding hindrance
+      unfolding judgedTold judgeTold hindrance
       judged-past h e =
           let x = le-ltb (length dual) (length (dualOf (q .program))) fits in
           let y = le-ltb (length model) (judged (q .program .atoms)) room in
@@ -82,9 +83,9 @@ module _ (q : Papers) {read : Outcome Papers} (is : read ≡ accepted q) (s : �
       pub judged-done : s < scenarioCount (q .program) → dual′ ≡ filled (dualOf (q .program)) dual → {r : Judged} {model′ : List ℕ}
           → r ≡ Verdict (explains (q .program) (q .query) s) (rounds (q .program) s) → model′ ≡ filled (modelBytes (q .program) s) model
           → Judges read s dual model r dual′ model′
-      unfolding hindrance
+      unfolding judgedTold judgeTold hindrance
       judged-done h e v m =
           let x = le-ltb (length dual) (length (dualOf (q .program))) fits in
           let y = le-ltb (length model) (judged (q .program .atoms)) room in
           let z = lt-ltb s (scenarioCount (q .program)) h in
-          (rw (is, x, y, z) v, (rw (is, x, y, z) e, rw (is, x, y, z) m))
+          (ap judgedTold v ∙ rw (is, x, y, z), (rw (is, x, y, z) e, rw (is, x, y, z) m))

@@ -5,7 +5,7 @@ mod values;
 ghost use mathlib.Core.Path.{_≡_};
 ghost use lib.ListN.{length};
 ghost use Rattle.papers.specs.Reading.{readPapers};
-ghost use Rattle.judging.specs.Judging.{judgeAnswer, dualJudged, modelJudged};
+ghost use Rattle.judging.specs.Judging.{judgedTold, judgeTold, dualJudged, modelJudged};
 use accepted::judge_accepted;
 use dual::DualWritten;
 use lanes::digits::scenario_count;
@@ -22,7 +22,11 @@ pub enum Judged {
 }
 
 pub fn judge(file: &[u8], sheet: &[u8], scenario: u32, dual: &mut [u8], model: &mut [u8]) -> Judged
-    ensures { λ r. ⌜ (r ≡ judgeAnswer (readPapers (now (file .entry)) (now (sheet .entry))) scenario (length (now (dual .entry))) (length (now (model .entry)))) × ((now (dual .exit) ≡ dualJudged (readPapers (now (file .entry)) (now (sheet .entry))) scenario (now (dual .entry)) (now (model .entry))) × (now (model .exit) ≡ modelJudged (readPapers (now (file .entry)) (now (sheet .entry))) scenario (now (dual .entry)) (now (model .entry)))) ⌝ }
+    ensures { λ r. ⌜
+        (judgedTold r ≡ judgeTold (readPapers (now (file .entry)) (now (sheet .entry))) scenario (length (now (dual .entry))) (length (now (model .entry))))
+        × ((now (dual .exit) ≡ dualJudged (readPapers (now (file .entry)) (now (sheet .entry))) scenario (now (dual .entry)) (now (model .entry)))
+        × (now (model .exit) ≡ modelJudged (readPapers (now (file .entry)) (now (sheet .entry))) scenario (now (dual .entry)) (now (model .entry))))
+        ⌝ }
 {
     let read = reading::read_papers(file, sheet);
     let PapersRead::Accepted(contents, literals) = read else {

@@ -19,6 +19,7 @@ use Rattle.papers.specs.Answers.{papersAnswer}
 use Rattle.papers.proofs.Answered.{papers-refused}
 use Rattle.papers.proofs.FileFacts.{told, program-valid, atoms-are}
 use Rattle.papers.proofs.PapersAnswers.{BothTold, both-told}
+use Rattle.papers.proofs.ToldLaws.{papers-told}
 use Rattle.dual.specs.Answers.{dualOf, filled}
 use Rattle.dual.proofs.BothPapers.{papersIn, both-read, both-asked, few-abducibles, few-literals, scenarios-are}
 use Rattle.dual.proofs.BothPapers.{other-told, dual-fits, dual-short, dual-stays, dual-kept, dual-filled}
@@ -45,7 +46,7 @@ module _ (c : tie.After-known-told) where
   literals = c .before .read .given .0 .1 .0
 
   answer : papersAnswer (readPapers (now (start .args .file)) (now (start .args .sheet))) ≡ Accepted contents literals
-  answer = sym (asked .read-papers .ensures) ∙ c .before .read .given .1
+  answer = sym (papers-told _ (asked .read-papers .ensures)) ∙ c .before .read .given .1
 
   both : BothTold (now (start .args .file)) (now (start .args .sheet)) contents literals
   both = both-told (now (start .args .file)) (now (start .args .sheet)) _ _ answer
@@ -151,7 +152,8 @@ returns-2 : tie.Need-returns-2
 returns-2 c =
     let asked = c .before .before .before .before .before .before in
     let a = asked .before .before .before .before .before .args in
-    let e = papers-refused (readPapers (now (a .file)) (now (a .sheet))) (asked .read-papers .ensures) (c .before .before .before .before .read2 .given .1 ∙ c .before .read3 .given .1) in
+    let told = papers-told _ (asked .read-papers .ensures) in
+    let e = papers-refused (readPapers (now (a .file)) (now (a .sheet))) told (c .before .before .before .before .read2 .given .1 ∙ c .before .read3 .given .1) in
     judged-refused e (a .scenario) (now (a .dual)) (now (a .model))
 
 cast-room : tie.Need-cast-room

@@ -1,0 +1,34 @@
+-- What is told of a judgement fixes the answer: it is found again from that.
+-- Assumes nothing.
+use mathlib.Core.Path.{_≡_, refl, sym, ap, _∙_}
+use Rattle.papers.specs.declared.Bare.{Bare}
+use Rattle.papers.specs.declared.Bare.the-variants as bare
+use Rattle.papers.specs.Outcome.{refusal}
+use Rattle.papers.specs.Told.{Told, tells, refusedBy, refusedAt, bareTold, refusalTold}
+use Rattle.papers.proofs.ToldLaws.{bareFrom}
+use Rattle.judging.specs.declared.Judged.{Judged}
+use Rattle.judging.specs.declared.Judged.the-variants as answer
+use Rattle.judging.specs.Judging.{Verdict, judgedTold}
+
+-- Judging is refused under 11, 12 and 13 of those that name no paper.
+abbrev judgedBare : Bare → Judged
+judgedBare bare.ShortDual = answer.ShortDual
+judgedBare bare.ShortModel = answer.ShortModel
+judgedBare bare.NoScenario = answer.NoScenario
+judgedBare bare.SpoiltSearch = answer.NoScenario
+
+abbrev pub judgedFrom : Told Verdict → Judged
+judgedFrom (tells v) = answer.Verdict (v .explains) (v .rounds)
+judgedFrom (refusedBy n) = judgedBare (bareFrom n)
+judgedFrom (refusedAt n paper place) = answer.Refused (refusal n paper place)
+
+pub judged-from : (r : Judged) → judgedFrom (judgedTold r) ≡ r
+unfolding judgedTold bareTold refusalTold
+judged-from (answer.Verdict e n) = refl
+judged-from answer.ShortDual = refl
+judged-from answer.ShortModel = refl
+judged-from answer.NoScenario = refl
+judged-from (answer.Refused r) = refl
+
+pub judged-fixed : {r s : Judged} → judgedTold r ≡ judgedTold s → r ≡ s
+judged-fixed {r} {s} e = sym (judged-from r) ∙ ap judgedFrom e ∙ judged-from s
