@@ -10,15 +10,16 @@ use Rattle.papers.specs.declared.Contents.{Contents}
 use Rattle.papers.specs.declared.Refusal.{Refusal}
 use Rattle.papers.specs.Outcome.{Outcome, accepted, refused}
 use Rattle.papers.specs.Reading.{Papers}
+use Rattle.papers.specs.Told.{tells}
 use Rattle.papers.proofs.PapersAnswers.{BothTold}
 use Rattle.dual.specs.Answers.{dualOf, filled}
 use Rattle.dual.proofs.BothPapers.{papersIn, scenarios-are}
-use Rattle.search.specs.declared.Report.{Report as Told}
+use Rattle.search.specs.declared.Report.{Report}
 use Rattle.search.specs.declared.Continued.the-variants.{Reported, ShortDual, SpoiltSearch, Refused}
 use Rattle.steps.specs.declared.Record.{Record}
 use Rattle.steps.specs.Continuing.{continue}
 use Rattle.steps.specs.Spoilt.{spoiltBy, spoilt}
-use Rattle.search.specs.Searching.{problemOf, callOf, toldReport, Answers}
+use Rattle.search.specs.Searching.{problemOf, callOf, toldReport, continuedTold, continueTold, Answers}
 use Rattle.steps.proofs.Calling.{answer-refused, answer-spoilt, answer-made}
 
 -- ---- the papers
@@ -34,11 +35,13 @@ module _ {file sheet : List ℕ} {contents : Contents} {literals : ℕ} (both : 
 -- 1 to 10.
 pub answers-refused : {read : Outcome Papers} {r : Refusal} → read ≡ refused r → (w : ℕ) (dual : List ℕ) (from : Record) (list : List ℕ)
     → Answers read w dual from list (Refused r) dual list
+unfolding continuedTold continueTold
 answers-refused e w dual from list = (rw e, (rw e, rw e))
 
 module _ (q : Papers) {read : Outcome Papers} (is : read ≡ accepted q) (w : ℕ) (dual : List ℕ) (from : Record) (list : List ℕ) {after : List ℕ} where
   -- 11.
   pub answers-short : length dual < length (dualOf (q .program)) → after ≡ dual → Answers read w dual from list ShortDual after list
+  unfolding continuedTold continueTold
   answers-short h e =
       let x = lt-ltb (length dual) (length (dualOf (q .program))) h in
       let y = answer-refused (problemOf q) (callOf q w (length dual)) from list x in
@@ -47,16 +50,18 @@ module _ (q : Papers) {read : Outcome Papers} (is : read ≡ accepted q) (w : �
   module _ (fits : length (dualOf (q .program)) ≤ length dual) where
     -- 14.
     pub answers-spoilt : spoilt (problemOf q) from list ≡ true → after ≡ dual → Answers read w dual from list SpoiltSearch after list
+    unfolding continuedTold continueTold
     answers-spoilt s e =
         let x = le-ltb (length dual) (length (dualOf (q .program))) fits in
         let y = answer-spoilt (problemOf q) (callOf q w (length dual)) from list x s in
         (rw (is, y, x), (rw (is, y) e, rw (is, y)))
 
     -- A report.
-    pub answers-report : spoilt (problemOf q) from list ≡ false → after ≡ filled (dualOf (q .program)) dual → {told : Told} {left : List ℕ}
+    pub answers-report : spoilt (problemOf q) from list ≡ false → after ≡ filled (dualOf (q .program)) dual → {told : Report} {left : List ℕ}
         → told ≡ toldReport (continue (problemOf q) w from list) → left ≡ continue (problemOf q) w from list .list
         → Answers read w dual from list (Reported told) after left
+    unfolding continuedTold continueTold
     answers-report s e t l =
         let x = le-ltb (length dual) (length (dualOf (q .program))) fits in
         let y = answer-made (problemOf q) (callOf q w (length dual)) from list x s in
-        (rw (is, y) (ap Reported t), (rw (is, y) e, rw (is, y) l))
+        (rw (is, y) (ap tells t), (rw (is, y) e, rw (is, y) l))

@@ -5,33 +5,34 @@ use mathlib.Core.List.{List, [], _∷_, map}
 use Prim.Native.Nat.{ℕ, _*_, _≤_}
 use lib.ListN.{length}
 use Rattle.literals.specs.Numbering.{judged}
+use Rattle.papers.specs.declared.Bare.the-variants as bare
 use Rattle.papers.specs.declared.Refusal.{Refusal}
 use Rattle.papers.specs.Outcome.{Outcome, accepted, refused}
 use Rattle.papers.specs.Reading.{Papers, readPapers}
+use Rattle.papers.specs.Told.{Told, tells, refusedBy, refusedAt, bareNumber, numberTold, refusalTold}
 use Rattle.dual.specs.Answers.{dualOf, filled}
-use Rattle.search.specs.declared.Continued.{Continued}
-use Rattle.search.specs.declared.Continued.the-variants.{Reported, ShortDual, SpoiltSearch, Refused}
+use Rattle.search.specs.declared.Report.{Report}
 use Rattle.steps.specs.declared.Record.{Record}
 use Rattle.steps.specs.Continuing.{fresh}
 use Rattle.steps.specs.Calls.{Call, Answer, refusal, report, Called, roundsBy}
 use Rattle.steps.specs.Demand.{Demand}
-use Rattle.search.specs.Searching.{problemOf, callOf, continueAnswer, dualContinued, listContinued, recordContinued, continuedNumber}
+use Rattle.search.specs.Searching.{problemOf, callOf, continueTold, dualContinued, listContinued, recordContinued}
 
 -- "Allowance and dual buffer are each call's own."
 pub record Lent : Type 0 where
   pub allowance : ℕ
   pub dual : List ℕ
 
--- What a call answers, and the dual buffer and the list as it leaves them.
+-- What a call tells, and the dual buffer and the list as it leaves them.
 pub record Made : Type 0 where
-  pub answer : Continued
+  pub told : Told Report
   pub dual : List ℕ
   pub list : List ℕ
 
 -- By the three equations that `continue_search` ensures.
 abbrev pub made : List ℕ → List ℕ → Lent → Record → List ℕ → Made
 made file sheet c from list = record {
-  answer = continueAnswer (readPapers file sheet) (c .allowance) (length (c .dual)) from list;
+  told = continueTold (readPapers file sheet) (c .allowance) (length (c .dual)) from list;
   dual = dualContinued (readPapers file sheet) (c .allowance) (c .dual) from list;
   list = listContinued (readPapers file sheet) (c .allowance) (length (c .dual)) from list;
 }
@@ -51,41 +52,40 @@ unfoldable pub searchCalls : List ℕ → List ℕ → List Lent → Record → 
 searchCalls file sheet [] from list = record { last = from; list = list; each = [] }
 searchCalls file sheet (c ∷ cs) from list =
     let m = made file sheet c from list in
-    firstMade m (searchCalls file sheet cs (recordContinued from (m .answer)) (m .list))
+    firstMade m (searchCalls file sheet cs (recordContinued from (m .told)) (m .list))
 
 -- What a call makes of papers that are refused by r: "buffers and record are unchanged".
 unfoldable pub refusedMade : Refusal → List ℕ → Lent → Made
-refusedMade r list c = record { answer = Refused r; dual = c .dual; list = list }
+refusedMade r list c = record { told = refusalTold r; dual = c .dual; list = list }
 
 -- ---- demand 3
 
--- A call and what it made, as `Demand` speaks of them: of a dual buffer, whether it is too short; of an answer, its report with the
+-- A call and what it made, as `Demand` speaks of them: of a dual buffer, whether it is too short; of what is told, the report with the
 -- list.
 unfoldable pub callFor : Papers → Lent → Call
 callFor q c = callOf q (c .allowance) (length (c .dual))
 
-abbrev pub answered : Continued → List ℕ → Answer
-answered (Reported x) list = report (record { new = x .new; list = list; tried = x .tried; rounds = x .rounds; state = x .state })
-answered ShortDual list = refusal
-answered SpoiltSearch list = refusal
-answered (Refused r) list = refusal
+abbrev pub answered : Told Report → List ℕ → Answer
+answered (tells x) list = report (record { new = x .new; list = list; tried = x .tried; rounds = x .rounds; state = x .state })
+answered (refusedBy number) list = refusal
+answered (refusedAt number paper place) list = refusal
 
 unfoldable pub answerFor : Made → Answer
-answerFor m = answered (m .answer) (m .list)
+answerFor m = answered (m .told) (m .list)
 
 abbrev pub calledBy : Searched → Called
 calledBy s = record { last = s .last; list = s .list; answers = map answerFor (s .each) }
 
 -- The number of a call's refusal, and its dual buffer afterwards.
 unfoldable pub numberOf : Made → ℕ
-numberOf m = continuedNumber (m .answer)
+numberOf m = numberTold (m .told)
 
 unfoldable pub dualLeft : Made → List ℕ
 dualLeft m = m .dual
 
 -- By its dual buffer alone: 11 and unchanged where that is too short; else 0, and it begins with the dual.
 unfoldable pub numberFor : Papers → Lent → ℕ
-numberFor q c = cond (callFor q c .refused) 11 0
+numberFor q c = cond (callFor q c .refused) (bareNumber bare.ShortDual) 0
 
 unfoldable pub dualFor : Papers → Lent → List ℕ
 dualFor q c = cond (callFor q c .refused) (c .dual) (filled (dualOf (q .program)) (c .dual))

@@ -1,4 +1,4 @@
--- Continuing: its refusals after those of the papers, its answer by document 01's numbers, and what the lent buffer and the lent list
+-- Continuing: its refusals after those of the papers, what it tells in document 01's numbers, and what the lent buffer and the lent list
 -- then hold.
 use mathlib.Core.Path.{_≡_}
 use mathlib.Core.Bool.{false, cond}
@@ -6,14 +6,16 @@ use mathlib.Core.List.{List}
 use Prim.Native.Nat.{ℕ, _+_, _^_, _<_}
 use lib.Dec.{ltb}
 use lib.ListN.{length}
+use Rattle.papers.specs.declared.Bare.the-variants as bare
 use Rattle.papers.specs.declared.Contents.{Contents}
 use Rattle.papers.specs.Field.{numbers}
 use Rattle.papers.specs.Outcome.{Outcome, accepted, refused}
 use Rattle.papers.specs.Reading.{programIn, Papers}
+use Rattle.papers.specs.Told.{Told, tells, refusedBy, refusedAt, bareTold, refusalTold}
 use Rattle.dual.specs.Answers.{dualOf, filled}
 use Rattle.model.specs.Model.{rounds, explains}
 use Rattle.lanes.specs.VerdictLanes.{Prepared}
-use Rattle.search.specs.declared.Report.{Report as Told}
+use Rattle.search.specs.declared.Report.{Report as CallReport}
 use Rattle.search.specs.declared.Continued.{Continued}
 use Rattle.search.specs.declared.Continued.the-variants.{Reported, ShortDual, SpoiltSearch, Refused}
 use Rattle.steps.specs.declared.stepping.Progress.{Progress}
@@ -42,18 +44,25 @@ abbrev pub answerOf : Papers → ℕ → ℕ → Record → List ℕ → Answer
 answerOf q allowance room from list = answer (problemOf q) (callOf q allowance room) from list
 
 -- "Reports the new record (position p plus tried), tried, rounds .. and the state."
-abbrev pub toldReport : Report → Told
+abbrev pub toldReport : Report → CallReport
 toldReport x = record { new = x .new; tried = x .tried; rounds = x .rounds; state = x .state }
 
--- "Then 11, 12, 13, 14", of which 11 and 14 are continuing's.
-abbrev pub continuedBy : Call → Answer → Continued
-continuedBy c refusal = cond (c .refused) ShortDual SpoiltSearch
-continuedBy c (report x) = Reported (toldReport x)
+-- What each answer tells.
+unfoldable pub continuedTold : Continued → Told CallReport
+continuedTold (Reported x) = tells x
+continuedTold ShortDual = bareTold bare.ShortDual
+continuedTold SpoiltSearch = bareTold bare.SpoiltSearch
+continuedTold (Refused r) = refusalTold r
 
--- The answer. `room` is the length of the lent dual buffer.
-abbrev pub continueAnswer : Outcome Papers → ℕ → ℕ → Record → List ℕ → Continued
-continueAnswer (refused r) allowance room from list = Refused r
-continueAnswer (accepted q) allowance room from list = continuedBy (callOf q allowance room) (answerOf q allowance room from list)
+-- "Then 11, 12, 13, 14", of which 11 and 14 are continuing's.
+abbrev pub toldBy : Call → Answer → Told CallReport
+toldBy c refusal = bareTold (cond (c .refused) bare.ShortDual bare.SpoiltSearch)
+toldBy c (report x) = tells (toldReport x)
+
+-- What continuing has to tell. `room` is the length of the lent dual buffer.
+unfoldable pub continueTold : Outcome Papers → ℕ → ℕ → Record → List ℕ → Told CallReport
+continueTold (refused r) allowance room from list = refusalTold r
+continueTold (accepted q) allowance room from list = toldBy (callOf q allowance room) (answerOf q allowance room from list)
 
 -- "Judging and continuing leave the dual in the dual buffer"; on refusal "buffers and record are unchanged".
 abbrev pub bufferBy : Answer → List ℕ → List ℕ → List ℕ
@@ -72,22 +81,14 @@ listContinued (accepted q) allowance room from list = listAfter list (answerOf q
 -- The answer, the lent buffer and the lent list together.
 abbrev pub Answers : Outcome Papers → ℕ → List ℕ → Record → List ℕ → Continued → List ℕ → List ℕ → Type 0
 Answers read allowance dual from list r after left =
-    (r ≡ continueAnswer read allowance (length dual) from list)
+    (continuedTold r ≡ continueTold read allowance (length dual) from list)
     × ((after ≡ dualContinued read allowance dual from list) × (left ≡ listContinued read allowance (length dual) from list))
 
 -- The record to go on from: the new one, and on refusal the same.
-abbrev pub recordContinued : Record → Continued → Record
-recordContinued from (Reported x) = x .new
-recordContinued from ShortDual = from
-recordContinued from SpoiltSearch = from
-recordContinued from (Refused r) = from
-
--- The number of a refusal of continuing: 1 to 10, 11, 14; 0 where it reports.
-abbrev pub continuedNumber : Continued → ℕ
-continuedNumber (Reported x) = 0
-continuedNumber ShortDual = 11
-continuedNumber SpoiltSearch = 14
-continuedNumber (Refused r) = r .number
+abbrev pub recordContinued : Record → Told CallReport → Record
+recordContinued from (tells x) = x .new
+recordContinued from (refusedBy number) = from
+recordContinued from (refusedAt number paper place) = from
 
 -- ---- for the functions behind it
 
@@ -96,7 +97,7 @@ abbrev pub problemIn : List ℕ → List ℕ → Problem
 problemIn file query = problemOf (record { program = programIn file; query = numbers query })
 
 -- What is told of a call that has come so far.
-abbrev pub reportBy : ℕ → ℕ → Progress → Told
+abbrev pub reportBy : ℕ → ℕ → Progress → CallReport
 reportBy total w s = record {
   new = record { position = s .position; found = s .found };
   tried = s .tried;

@@ -7,6 +7,7 @@ use borrow.Author.Needs.{needs}
 use denote.Ref.{now}
 use Rattle.papers.specs.Reading.{readPapers}
 use Rattle.papers.proofs.Answered.{papers-refused}
+use Rattle.papers.proofs.ToldLaws.{papers-told}
 use Rattle.search.proofs.AnswerLaws.{answers-refused}
 use Rattle.search.proofs.continue_search.Statement.{statement}
 use Rattle.search.proofs.continue_search.Tie as tie
@@ -33,11 +34,13 @@ returns-2 : tie.Need-returns-2
 returns-2 c =
     let read = c .before .before .before .before .before .before in
     let a = read .before .before .before .before .before .args in
-    answers-refused (papers-refused (readPapers (now (a .file)) (now (a .sheet))) (read .read-papers .ensures) (c .before .before .before .before .read2 .given .1 ∙ c .before .read3 .given .1))
+    let told = papers-told _ (read .read-papers .ensures) in
+    answers-refused
+    (papers-refused (readPapers (now (a .file)) (now (a .sheet))) told (c .before .before .before .before .read2 .given .1 ∙ c .before .read3 .given .1))
     (a .allowance) (now (a .dual)) (a .from) (now (a .list))
 
 continue-accepted-requires : tie.Need-continue-accepted-requires
-continue-accepted-requires c κs = sym (c .before .before .before .before .before .read-papers .ensures) ∙ c .before .before .before .read .given .1
+continue-accepted-requires c κs = sym (papers-told _ (c .before .before .before .before .before .read-papers .ensures)) ∙ c .before .before .before .read .given .1
 
 same-length : tie.Need-same-length
 same-length c = search needs
