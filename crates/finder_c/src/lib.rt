@@ -3,13 +3,17 @@
 ghost use mathlib.Core.Path.{_≡_};
 ghost use lib.ListN.{length};
 ghost use Rattle.papers.specs.Reading.{readFile, readPapers};
-ghost use Rattle.dual.specs.Answers.{dualAnswer, dualAfter};
-ghost use Rattle.judging.specs.Judging.{judgeAnswer, dualJudged, modelJudged};
+ghost use Rattle.papers.specs.Answers.{restOf};
+ghost use Rattle.papers.specs.Told.{bareNumber, readTold, papersOf};
+ghost use Rattle.dual.specs.Answers.{writtenTold, dualTold, dualAfter};
+ghost use Rattle.judging.specs.Judging.{judgedTold, judgeTold, dualJudged, modelJudged};
 ghost use Rattle.steps.specs.declared.Record.{Record};
-ghost use Rattle.search.specs.Searching.{continueAnswer, dualContinued, listContinued};
-ghost use Rattle.finder_c.specs.Words.{flagNumber, paperNumber, stateNumber, recordOf, refusalWords, restWords, dualWords, judgedWords, reportWords, continuedWords};
+ghost use Rattle.search.specs.Searching.{continuedTold, continueTold, dualContinued, listContinued};
+ghost use Rattle.finder_c.specs.Words.{flagNumber, paperNumber, stateNumber, recordOf, two, acceptedWords, bareWords, refusalWords};
+ghost use Rattle.finder_c.specs.Words.{restWords, dualWords, judgedWords, reportWords, continuedWords};
 use dual::DualWritten;
 use judging::Judged;
+use papers::Bare;
 use papers::Paper;
 use papers::PapersRead;
 use papers::Refusal;
@@ -27,8 +31,15 @@ fn paper_number(paper: Paper) -> u64
     }
 }
 
+fn bare_words(bare: Bare, third: u64, fourth: u64) -> [u64; 8]
+    ensures { λ r. ⌜ r ≡ bareWords (bareNumber bare) (two third fourth) ⌝ }
+{
+    let number = papers::bare_number(bare) as u64;
+    [number, 0, 0, third, fourth, 0, 0, 0]
+}
+
 fn refusal_words(refusal: Refusal, third: u64, fourth: u64) -> [u64; 8]
-    ensures { λ r. ⌜ r ≡ refusalWords refusal third fourth ⌝ }
+    ensures { λ r. ⌜ r ≡ refusalWords (refusal .number) (refusal .paper) (refusal .place) (two third fourth) ⌝ }
 {
     let number = refusal.number as u64;
     let paper = refusal.paper;
@@ -38,7 +49,11 @@ fn refusal_words(refusal: Refusal, third: u64, fourth: u64) -> [u64; 8]
 
 #[no_mangle]
 pub extern "C" fn finder_rest<'a>(file: &'a [u8], sheet: &'a [u8], out: &mut [u64; 8])
-    ensures { λ _. ⌜ now (out .exit) ≡ restWords (readPapers (now (file .entry)) (now (sheet .entry))) (now (file .entry)) (now (sheet .entry)) ⌝ }
+    ensures { λ _. ⌜
+        now (out .exit)
+        ≡ restWords (restOf (readPapers (now (file .entry)) (now (sheet .entry))) (now (file .entry)) (now (sheet .entry)))
+        (readTold papersOf (readPapers (now (file .entry)) (now (sheet .entry))))
+        ⌝ }
 {
     let read = reading::read_papers(file, sheet);
     let PapersRead::Refused(refusal) = read else {
@@ -50,18 +65,21 @@ pub extern "C" fn finder_rest<'a>(file: &'a [u8], sheet: &'a [u8], out: &mut [u6
 }
 
 fn dual_words(written: DualWritten) -> [u64; 8]
-    ensures { λ r. ⌜ r ≡ dualWords written ⌝ }
+    ensures { λ r. ⌜ r ≡ dualWords (writtenTold written) ⌝ }
 {
     match written {
         DualWritten::Length(n) => [0, 0, 0, n as u64, 0, 0, 0, 0],
-        DualWritten::Short => [11, 0, 0, 0, 0, 0, 0, 0],
+        DualWritten::Short => bare_words(Bare::ShortDual, 0, 0),
         DualWritten::Refused(refusal) => refusal_words(refusal, 0, 0),
     }
 }
 
 #[no_mangle]
 pub extern "C" fn finder_write_dual(file: &[u8], dual: &mut [u8], out: &mut [u64; 8])
-    ensures { λ _. ⌜ (now (out .exit) ≡ dualWords (dualAnswer (readFile (now (file .entry))) (length (now (dual .entry))))) × (now (dual .exit) ≡ dualAfter (readFile (now (file .entry))) (now (dual .entry))) ⌝ }
+    ensures { λ _. ⌜
+        (now (out .exit) ≡ dualWords (dualTold (readFile (now (file .entry))) (length (now (dual .entry)))))
+        × (now (dual .exit) ≡ dualAfter (readFile (now (file .entry))) (now (dual .entry)))
+        ⌝ }
 {
     let written = dual::write_dual(file, dual);
     *out = dual_words(written);
@@ -74,13 +92,13 @@ fn flag_number(flag: bool) -> u64
 }
 
 fn judged_words(judged: Judged) -> [u64; 8]
-    ensures { λ r. ⌜ r ≡ judgedWords judged ⌝ }
+    ensures { λ r. ⌜ r ≡ judgedWords (judgedTold judged) ⌝ }
 {
     match judged {
         Judged::Verdict { explains, rounds } => [0, 0, 0, flag_number(explains), rounds, 0, 0, 0],
-        Judged::ShortDual => [11, 0, 0, 0, 0, 0, 0, 0],
-        Judged::ShortModel => [12, 0, 0, 0, 0, 0, 0, 0],
-        Judged::NoScenario => [13, 0, 0, 0, 0, 0, 0, 0],
+        Judged::ShortDual => bare_words(Bare::ShortDual, 0, 0),
+        Judged::ShortModel => bare_words(Bare::ShortModel, 0, 0),
+        Judged::NoScenario => bare_words(Bare::NoScenario, 0, 0),
         Judged::Refused(refusal) => refusal_words(refusal, 0, 0),
     }
 }
@@ -94,7 +112,13 @@ pub extern "C" fn finder_judge(
     model: &mut [u8],
     out: &mut [u64; 8],
 )
-    ensures { λ _. ⌜ (now (out .exit) ≡ judgedWords (judgeAnswer (readPapers (now (file .entry)) (now (sheet .entry))) scenario (length (now (dual .entry))) (length (now (model .entry))))) × ((now (dual .exit) ≡ dualJudged (readPapers (now (file .entry)) (now (sheet .entry))) scenario (now (dual .entry)) (now (model .entry))) × (now (model .exit) ≡ modelJudged (readPapers (now (file .entry)) (now (sheet .entry))) scenario (now (dual .entry)) (now (model .entry)))) ⌝ }
+    ensures { λ _. ⌜
+        (now (out .exit)
+        ≡ judgedWords
+        (judgeTold (readPapers (now (file .entry)) (now (sheet .entry))) scenario (length (now (dual .entry))) (length (now (model .entry)))))
+        × ((now (dual .exit) ≡ dualJudged (readPapers (now (file .entry)) (now (sheet .entry))) scenario (now (dual .entry)) (now (model .entry)))
+        × (now (model .exit) ≡ modelJudged (readPapers (now (file .entry)) (now (sheet .entry))) scenario (now (dual .entry)) (now (model .entry))))
+        ⌝ }
 {
     let judged = judging::judge(file, sheet, scenario, dual, model);
     *out = judged_words(judged);
@@ -111,7 +135,7 @@ fn state_number(state: State) -> u64
 }
 
 fn report_words(report: Report) -> [u64; 8]
-    ensures { λ r. ⌜ r ≡ reportWords report ⌝ }
+    ensures { λ r. ⌜ r ≡ acceptedWords (reportWords report) ⌝ }
 {
     let new = report.new;
     let state = report.state;
@@ -128,14 +152,14 @@ fn report_words(report: Report) -> [u64; 8]
 }
 
 fn continued_words(from: Record, continued: Continued) -> [u64; 8]
-    ensures { λ r. ⌜ r ≡ continuedWords from continued ⌝ }
+    ensures { λ r. ⌜ r ≡ continuedWords from (continuedTold continued) ⌝ }
 {
     let position = from.position as u64;
     let found = from.found as u64;
     match continued {
         Continued::Reported(report) => report_words(report),
-        Continued::ShortDual => [11, 0, 0, position, found, 0, 0, 0],
-        Continued::SpoiltSearch => [14, 0, 0, position, found, 0, 0, 0],
+        Continued::ShortDual => bare_words(Bare::ShortDual, position, found),
+        Continued::SpoiltSearch => bare_words(Bare::SpoiltSearch, position, found),
         Continued::Refused(refusal) => refusal_words(refusal, position, found),
     }
 }
@@ -151,7 +175,18 @@ pub extern "C" fn finder_continue(
     allowance: u32,
     out: &mut [u64; 8],
 )
-    ensures { λ _. ⌜ (now (out .exit) ≡ continuedWords (recordOf position found) (continueAnswer (readPapers (now (file .entry)) (now (sheet .entry))) allowance (length (now (dual .entry))) (recordOf position found) (now (list .entry)))) × ((now (dual .exit) ≡ dualContinued (readPapers (now (file .entry)) (now (sheet .entry))) allowance (now (dual .entry)) (recordOf position found) (now (list .entry))) × (now (list .exit) ≡ listContinued (readPapers (now (file .entry)) (now (sheet .entry))) allowance (length (now (dual .entry))) (recordOf position found) (now (list .entry)))) ⌝ }
+    ensures { λ _. ⌜
+        (now (out .exit)
+        ≡ continuedWords (recordOf position found)
+        (continueTold (readPapers (now (file .entry)) (now (sheet .entry))) allowance (length (now (dual .entry))) (recordOf position found)
+        (now (list .entry))))
+        × ((now (dual .exit)
+        ≡ dualContinued (readPapers (now (file .entry)) (now (sheet .entry))) allowance (now (dual .entry)) (recordOf position found)
+        (now (list .entry)))
+        × (now (list .exit)
+        ≡ listContinued (readPapers (now (file .entry)) (now (sheet .entry))) allowance (length (now (dual .entry))) (recordOf position found)
+        (now (list .entry))))
+        ⌝ }
 {
     let from = Record { position, found };
     let continued = search::continue_search(file, sheet, dual, list, from, allowance);
