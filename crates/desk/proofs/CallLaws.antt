@@ -8,14 +8,15 @@ use borrow.Author.Tests.{le-ltb}
 use lib.ListN.{length, take, drop, take-append-drop}
 use Rattle.papers.specs.Outcome.{Outcome, accepted}
 use Rattle.papers.specs.Reading.{Papers}
+use Rattle.papers.specs.Told.{tells}
 use Rattle.dual.specs.Answers.{dualOf}
 use Rattle.search.specs.declared.Continued.the-variants.{Reported}
-use Rattle.search.specs.declared.Report.{Report as Told}
+use Rattle.search.specs.declared.Report.{Report as CallReport}
 use Rattle.steps.specs.Scenarios.{Problem, scenarios, minimals, stop, sumBelow, roundsFrom}
 use Rattle.steps.specs.Continuing.{Report, reportOf, continue, stateBy}
 use Rattle.steps.specs.Spoilt.{spoilt}
 use Rattle.steps.specs.Calls.{answer, report}
-use Rattle.search.specs.Searching.{problemOf, callOf, toldReport, continueAnswer, listContinued}
+use Rattle.search.specs.Searching.{problemOf, callOf, toldReport, continuedTold, continueTold, listContinued}
 use Rattle.steps.proofs.Stopping.{stop-le}
 use Rattle.steps.proofs.Sums.{sum-rounds, sum-bound}
 use Rattle.steps.proofs.Canonical.{recordAt, listAt, workAt, listAt-found, listAt-length, continue-at}
@@ -42,7 +43,7 @@ module _ (P : Problem) (list : List ℕ) (before : Progress) (stands : Stands P 
   unspoilt = ap₂ (spoilt P) reached-is (sym list-is) ∙ reached-unspoilt P list (before .reached .position) (stands .within)
 
 -- After a call that told so much.
-abbrev pub next : Progress → Told → Progress
+abbrev pub next : Progress → CallReport → Progress
 next before told = record {
   reached = told .new;
   tried = before .tried + told .tried;
@@ -51,7 +52,7 @@ next before told = record {
 }
 
 -- What a call leaves: where the calls then stand, and that the sums fit 64 bits.
-pub record Called (P : Problem) (list : List ℕ) (before : Progress) (told : Told) (after : List ℕ) : Type 0 where
+pub record Called (P : Problem) (list : List ℕ) (before : Progress) (told : CallReport) (after : List ℕ) : Type 0 where
   pub stands : Stands P after (next before told)
   pub gone : GoneOn P (length list) before (next before told)
   pub triedFits : before .tried + told .tried < 18446744073709551616
@@ -99,20 +100,23 @@ module _ {read : Outcome Papers} {q : Papers} (is : read ≡ accepted q) (small 
       answer-made (problemOf q) (callOf q 4096 room) (before .reached) list (le-ltb room (length (dualOf (q .program))) enough)
       (unspoilt (problemOf q) list before stands-there)
 
-  pub answer-is : continueAnswer read 4096 room (before .reached) list ≡ Reported (toldReport (continue (problemOf q) 4096 (before .reached) list))
-  answer-is = rw (is, made)
+  pub tells-report : continueTold read 4096 room (before .reached) list ≡ tells (toldReport (continue (problemOf q) 4096 (before .reached) list))
+  unfolding continueTold
+  tells-report = rw (is, made)
 
   list-after : listContinued read 4096 room (before .reached) list ≡ continue (problemOf q) 4096 (before .reached) list .list
   list-after = rw (is, made)
 
-  pub called : {told : Told} {after : List ℕ} → Reported told ≡ continueAnswer read 4096 room (before .reached) list
+  pub called : {told : CallReport} {after : List ℕ} → continuedTold (Reported told) ≡ continueTold read 4096 room (before .reached) list
       → after ≡ listContinued read 4096 room (before .reached) list → Called (problemFor read) list before told after
+  unfolding continuedTold
   called {told} {after} t l =
       let P = problemOf q in
       let m = min 4096 (stop P (length list) - before .reached .position) in
       let e = reported-is P small list before stands-there m refl in
-      let tells : told ≡ toldReport (continue P 4096 (before .reached) list) = let z = t ∙ answer-is in cc in
+      let tells : told ≡ toldReport (continue P 4096 (before .reached) list) = let z = t ∙ tells-report in cc in
       let there = called-there P small list before stands-there m refl in
-      let x = subst (λ (r : Told). Called P list before r (reported P small list before stands-there m refl .list)) (ap toldReport (sym e) ∙ sym tells) there in
+      let entries = reported P small list before stands-there m refl .list in
+      let x = subst (λ (r : CallReport). Called P list before r entries) (ap toldReport (sym e) ∙ sym tells) there in
       let y = subst (λ (r : List ℕ). Called P list before told r) (ap (λ (r : Report). r .list) (sym e) ∙ sym (l ∙ list-after)) x in
       subst (λ (R : Problem). Called R list before told after) (sym (problem-is is)) y

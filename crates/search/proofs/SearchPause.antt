@@ -1,7 +1,7 @@
 -- The pause theorem of `continue_search`: demand 3 of every list of its calls.
 -- Assumes nothing.
 use mathlib.Core.Path.{_≡_, refl, sym, ap, ap₂, subst, _∙_}
-use mathlib.Core.Bool.{Bool, true, false, cond}
+use mathlib.Core.Bool.{cond}
 use mathlib.Core.List.{List, [], _∷_, map}
 use Prim.Native.Nat.{ℕ, _*_}
 use Rattle.papers.specs.declared.Bare.the-variants as bare

@@ -150,10 +150,11 @@ returns c = absurd (let e = c .enum-told .given .1 in let z : _≡_ {A = ℕ} 0 
 
 returns-2 : tie.Need-returns-2
 returns-2 c =
-    let asked = c .before .before .before .before .before .before in
+    let other = c .before .before .before .before in
+    let asked = other .before .before in
     let a = asked .before .before .before .before .before .args in
     let told = papers-told _ (asked .read-papers .ensures) in
-    let e = papers-refused (readPapers (now (a .file)) (now (a .sheet))) told (c .before .before .before .before .read2 .given .1 ∙ c .before .read3 .given .1) in
+    let e = papers-refused (readPapers (now (a .file)) (now (a .sheet))) told (other .read2 .given .1 ∙ c .before .read3 .given .1) in
     judged-refused e (a .scenario) (now (a .dual)) (now (a .model))
 
 cast-room : tie.Need-cast-room

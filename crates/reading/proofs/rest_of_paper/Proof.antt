@@ -1,16 +1,34 @@
 -- `reading::rest_of_paper` meets its contract.
 -- Assumes nothing.
-use mathlib.Core.Path.{_∙_}
+use mathlib.Core.Path.{_≡_, _∙_}
+use mathlib.Core.List.{List}
+use Prim.Native.Nat.{ℕ}
 use denote.Ref.{now}
 use native.Mathlib.Omega.{arith}
 use lib.Seq.{drop-length}
 use Rattle.papers.specs.Reading.{readPapers}
+use Rattle.papers.specs.Answers.{papersAnswer}
 use Rattle.papers.proofs.Answered.{papers-accepted, papers-refused}
 use Rattle.papers.proofs.Placed.{refused-within}
 use Rattle.papers.proofs.ToldLaws.{papers-told}
 use borrow.Author.Needs.{needs}
 use Rattle.reading.proofs.rest_of_paper.Statement.{statement}
 use Rattle.reading.proofs.rest_of_paper.Tie as tie
+
+-- ---- once both papers are read
+
+module _ (c : tie.After-read-papers) where
+  abbrev start : tie.Start
+  start = c .before .before .before
+
+  abbrev file : List ℕ
+  file = now (start .args .file)
+
+  abbrev sheet : List ℕ
+  sheet = now (start .args .sheet)
+
+  told : c .read-papers .result ≡ papersAnswer (readPapers file sheet)
+  told = papers-told _ (c .read-papers .ensures)
 
 read-papers-requires : tie.Need-read-papers-requires
 read-papers-requires c κs = search needs
@@ -27,9 +45,8 @@ part-from-requires c κs = search needs
 returns : tie.Need-returns
 returns c =
     let read = c .before .before .before in
-    let a = read .before .before .before .args in
-    let q = papers-accepted (readPapers (now (a .file)) (now (a .sheet))) (papers-told _ (read .read-papers .ensures)) (c .before .enum-told .given .1) in
-    rw (q .is) (c .part-from .ensures .0 ∙ drop-length (now (a .sheet)), c .part-from .ensures .1 (omega arith))
+    let q = papers-accepted (readPapers (file read) (sheet read)) (told read) (c .before .enum-told .given .1) in
+    rw (q .is) (c .part-from .ensures .0 ∙ drop-length (sheet read), c .part-from .ensures .1 (omega arith))
 
 enum-told-2 : tie.Need-enum-told-2
 enum-told-2 c = search needs
@@ -45,20 +62,20 @@ part-from-requires-3 c κs = search needs
 
 returns-2 : tie.Need-returns-2
 returns-2 c =
-    let read = c .before .before .before .before .before .before in
-    let a = read .before .before .before .args in
-    let e = papers-refused (readPapers (now (a .file)) (now (a .sheet))) (papers-told _ (read .read-papers .ensures)) (c .before .before .before .before .read .given .1) in
+    let refused = c .before .before .before .before in
+    let read = refused .before .before in
+    let e = papers-refused (readPapers (file read) (sheet read)) (told read) (refused .read .given .1) in
     let paper = c .before .enum-told2 .given .1 in
-    let within = rw paper at (refused-within (now (a .file)) (now (a .sheet)) _ e) in
+    let within = rw paper at (refused-within (file read) (sheet read) _ e) in
     rw (e, paper) (c .part-from2 .ensures .0, c .part-from2 .ensures .1 within)
 
 returns-3 : tie.Need-returns-3
 returns-3 c =
-    let read = c .before .before .before .before .before .before in
-    let a = read .before .before .before .args in
-    let e = papers-refused (readPapers (now (a .file)) (now (a .sheet))) (papers-told _ (read .read-papers .ensures)) (c .before .before .before .before .read .given .1) in
+    let refused = c .before .before .before .before in
+    let read = refused .before .before in
+    let e = papers-refused (readPapers (file read) (sheet read)) (told read) (refused .read .given .1) in
     let paper = c .before .enum-told3 .given .1 in
-    let within = rw paper at (refused-within (now (a .file)) (now (a .sheet)) _ e) in
+    let within = rw paper at (refused-within (file read) (sheet read) _ e) in
     rw (e, paper) (c .part-from3 .ensures .0, c .part-from3 .ensures .1 within)
 
 pub rest-of-paper-spec : {M : Type 1} → statement M

@@ -32,15 +32,17 @@ returns c = let e : _≡_ {A = ℕ} 1 0 = c .before .match2 .keys2 in absurd (om
 
 returns-2 : tie.Need-returns-2
 returns-2 c =
-    let read = c .before .before .before .before .before .before in
-    let a = read .before .before .before .before .before .args in
-    let told = papers-told _ (read .read-papers .ensures) in
-    answers-refused
-    (papers-refused (readPapers (now (a .file)) (now (a .sheet))) told (c .before .before .before .before .read2 .given .1 ∙ c .before .read3 .given .1))
+    let other = c .before .before .before .before in
+    let asked = other .before .before in
+    let a = asked .before .before .before .before .before .args in
+    let told = papers-told _ (asked .read-papers .ensures) in
+    answers-refused (papers-refused (readPapers (now (a .file)) (now (a .sheet))) told (other .read2 .given .1 ∙ c .before .read3 .given .1))
     (a .allowance) (now (a .dual)) (a .from) (now (a .list))
 
 continue-accepted-requires : tie.Need-continue-accepted-requires
-continue-accepted-requires c κs = sym (papers-told _ (c .before .before .before .before .before .read-papers .ensures)) ∙ c .before .before .before .read .given .1
+continue-accepted-requires c κs =
+    let accepted = c .before .before .before in
+    sym (papers-told _ (accepted .before .before .read-papers .ensures)) ∙ accepted .read .given .1
 
 same-length : tie.Need-same-length
 same-length c = search needs

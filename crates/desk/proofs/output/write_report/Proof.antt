@@ -6,6 +6,7 @@ use borrow.Author.Needs.{needs}
 use denote.Ref.{now}
 use Rattle.papers.specs.Reading.{readPapers}
 use Rattle.papers.proofs.Answered.{papers-accepted, papers-refused}
+use Rattle.papers.proofs.ToldLaws.{papers-told}
 use Rattle.desk.specs.Output.{deskText}
 use Rattle.desk.proofs.output.write_report.Statement.{statement}
 use Rattle.desk.proofs.output.write_report.Tie as tie
@@ -41,7 +42,8 @@ returns-2 c =
     let other = refused .before .before .before in
     let read = other .before .before in
     let a = read .before .before .before .before .before .before .args in
-    let e = papers-refused (readPapers (now (a .file)) (now (a .sheet))) (read .read-papers .ensures) (other .read2 .given .1 ∙ refused .read3 .given .1) in
+    let told = papers-told _ (read .read-papers .ensures) in
+    let e = papers-refused (readPapers (now (a .file)) (now (a .sheet))) told (other .read2 .given .1 ∙ refused .read3 .given .1) in
     let put = c .before .before .write-refused .ensures in
     (rw e (put .0), let m = put .1 in omega arith)
 
@@ -50,7 +52,8 @@ write-accepted-requires c κs =
     let accepted = c .before .before .before .before in
     let read = accepted .before .before in
     let start = read .before .before .before .before .before .before in
-    let q = papers-accepted (readPapers (now (start .args .file)) (now (start .args .sheet))) (read .read-papers .ensures) (accepted .read .given .1) in
+    let told = papers-told _ (read .read-papers .ensures) in
+    let q = papers-accepted (readPapers (now (start .args .file)) (now (start .args .sheet))) told (accepted .read .given .1) in
     (record { papers = q .papers; is = q .is; told = q .told }, (start .pre .0, start .pre .1))
 
 same-length-2 : tie.Need-same-length-2

@@ -10,13 +10,15 @@ use denote.Ref.{now}
 use denote.Enum.Declared.{tagOf}
 use lib.ListN.{length}
 use Rattle.papers.specs.Reading.{readPapers}
+use Rattle.papers.specs.Told.{Told}
 use Rattle.dual.specs.Answers.{dualOf}
-use Rattle.search.specs.declared.Continued.{Continued}
-use Rattle.search.specs.Searching.{continueAnswer}
+use Rattle.search.specs.declared.Report.{Report}
+use Rattle.search.specs.Searching.{continuedTold, continueTold}
 use Rattle.search.proofs.Continued.{the-type}
+use Rattle.search.proofs.ToldLaws.{reported-told}
 use Rattle.desk.specs.Search.{Accepted, problemFor}
 use Rattle.desk.proofs.PaperLaws.{small, dual-few}
-use Rattle.desk.proofs.CallLaws.{Called, answer-is, called}
+use Rattle.desk.proofs.CallLaws.{Called, tells-report, called}
 use Rattle.desk.proofs.searching.go_on.Statement.{statement}
 use Rattle.desk.proofs.searching.go_on.Tie as tie
 
@@ -50,11 +52,11 @@ module _ (c : tie.After-continue-search) where
   enough : length (dualOf (both .papers .program)) ≤ length (now (start .args .dual))
   enough = let fits = dual-few file sheet (both .is) in let h = start .pre .1 .0 in omega arith
 
-  abbrev answer : Continued
-  answer = continueAnswer (readPapers file sheet) 4096 (length (now (start .args .dual))) (start .args .before .reached) list
+  abbrev due : Told Report
+  due = continueTold (readPapers file sheet) 4096 (length (now (start .args .dual))) (start .args .before .reached) list
 
-  answered : c .continue-search .result ≡ answer
-  answered = c .continue-search .ensures .0
+  told : continuedTold (c .continue-search .result) ≡ due
+  told = c .continue-search .ensures .0
 
 -- ---- once it has reported
 
@@ -66,7 +68,7 @@ module _ (c : tie.After-known-told) where
   made =
       let s = asked in
       called (both s .is) (small (file s) (sheet s) (both s .is)) (length (now (start s .args .dual))) (enough s) (list s) (start s .args .before) (start s .pre .1 .1)
-      (sym (c .before .continued .given .1) ∙ answered s) (s .continue-search .ensures .1 .1)
+      (ap continuedTold (sym (c .before .continued .given .1)) ∙ told s) (s .continue-search .ensures .1 .1)
 
 continue-search-requires : tie.Need-continue-search-requires
 continue-search-requires c κs = search needs
@@ -83,8 +85,10 @@ same-length-2 c = search needs
 returns : tie.Need-returns
 returns c =
     let s = c .before .before .before .before .before in
-    let is = answer-is (both s .is) (small (file s) (sheet s) (both s .is)) (length (now (start s .args .dual))) (enough s) (list s) (start s .args .before) (start s .pre .1 .1) in
-    absurd (never (ap (tagOf the-type) (answered s ∙ is)) (c .match .keys2))
+    let few = small (file s) (sheet s) (both s .is) in
+    let a = start s .args in
+    let is = tells-report (both s .is) few (length (now (a .dual))) (enough s) (list s) (a .before) (start s .pre .1 .1) in
+    absurd (never (ap (tagOf the-type) (reported-told (told s ∙ is))) (c .match .keys2))
 
 cast-t15 : tie.Need-cast-t15
 cast-t15 c = search needs
