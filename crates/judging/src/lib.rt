@@ -35,7 +35,7 @@ pub fn judge(file: &[u8], sheet: &[u8], scenario: u32, dual: &mut [u8], model: &
         };
         return Judged::Refused(refusal);
     };
-    let room = 2 * (contents.atoms as usize) < model.len();
+    let room = literals::judged(contents.atoms) <= model.len();
     let listed = scenario < scenario_count(contents.abducibles);
     let places = folds::fold_places(file, contents);
     let written = dual::write_accepted(file, contents, &places, dual, room & listed);

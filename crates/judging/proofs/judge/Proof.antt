@@ -1,14 +1,14 @@
 -- `judging::judge` meets its contract.
 -- Assumes nothing.
 use borrow.Author.Needs.{needs}
-use borrow.Author.Tests.{not-true, not-false, ltb-true, ltb-false}
+use borrow.Author.Tests.{not-true, not-false, ltb-true, ltb-false, leb-true, leb-false}
 use mathlib.Core.Path.{_≡_, sym, subst, _∙_}
 use mathlib.Core.Bool.{Bool, true, false, _&&_}
 use mathlib.Core.List.{List}
 use Prim.Native.Nat.{ℕ, _*_, _<_, _≤_}
 use native.Mathlib.Omega.{arith}
 use denote.Ref.{now}
-use lib.Dec.{ltb}
+use lib.Dec.{ltb, leb}
 use lib.ListN.{length}
 use Rattle.literals.specs.Numbering.{judged}
 use Rattle.papers.specs.declared.Contents.{Contents}
@@ -80,7 +80,7 @@ module _ (c : tie.After-write-accepted) where
 
   -- The two tests that the code makes before it has the dual written.
   abbrev room : Bool
-  room = ltb (2 * contents taken .atoms) (length model)
+  room = leb (counted .before .judged .result) (length model)
 
   abbrev listed : Bool
   listed = ltb scenario (counted .scenario-count .result)
@@ -88,14 +88,14 @@ module _ (c : tie.After-write-accepted) where
   small : room ≡ false → length model < judged (papers taken .program .atoms)
   small e =
       let same = atoms-are (now (start taken .args .file)) _ (both taken .answer) in
-      let less = ltb-false (2 * contents taken .atoms) (length model) e in
-      omega arith
+      let less = leb-false (counted .before .judged .result) (length model) e in
+      omega (arith, counted .before .judged .ensures)
 
   large : room ≡ true → judged (papers taken .program .atoms) ≤ length model
   large e =
       let same = atoms-are (now (start taken .args .file)) _ (both taken .answer) in
-      let more = ltb-true (2 * contents taken .atoms) (length model) e in
-      omega arith
+      let more = leb-true (counted .before .judged .result) (length model) e in
+      omega (arith, counted .before .judged .ensures)
 
   past : listed ≡ false → scenarioCount (papers taken .program) ≤ scenario
   past e =
@@ -157,11 +157,8 @@ returns-2 c =
     let e = papers-refused (readPapers (now (a .file)) (now (a .sheet))) told (other .read2 .given .1 ∙ c .before .read3 .given .1) in
     judged-refused e (a .scenario) (now (a .dual)) (now (a .model))
 
-cast-room : tie.Need-cast-room
-cast-room c = search needs
-
-mul-room : tie.Need-mul-room
-mul-room c = search needs
+judged-requires : tie.Need-judged-requires
+judged-requires c κs = search needs
 
 scenario-count-requires : tie.Need-scenario-count-requires
 scenario-count-requires c κs = few-abducibles (both (c .before))
@@ -274,8 +271,7 @@ judge-spec =
     enum-told
     returns
     returns-2
-    cast-room
-    mul-room
+    judged-requires
     scenario-count-requires
     fold-places-requires
     write-accepted-requires
