@@ -18,8 +18,9 @@ entries-last p (suc count) o =
     let e : o + 1 + count ≡ o + suc count = omega arith in
     rw (s, entries-last p count (o + 1), append-assoc, e)
 
+pub entries-more : (p : Program) (o : ℕ) → entriesFrom p (o + 1) 0 ≡ entriesFrom p o 0 ++ entryIfAny p o
+entries-more p o = entries-last p o 0 ∙ ap (λ (q : ℕ). entriesFrom p o 0 ++ entryIfAny p q) (zero-add o)
+
 pub falsum-last : (p : Program) → dual p ≡ entriesFrom p (falsum (p .atoms)) 0 ++ entryIfAny p (falsum (p .atoms))
 unfolding dual
-falsum-last p =
-    let o = falsum (p .atoms) in
-    entries-last p o 0 ∙ ap (λ (q : ℕ). entriesFrom p o 0 ++ entryIfAny p q) (zero-add o)
+falsum-last p = entries-more p (falsum (p .atoms))

@@ -2,7 +2,7 @@
 -- Assumes nothing.
 use mathlib.Core.Path.{_≡_, refl, sym, ap, _∙_}
 use mathlib.Core.Bool.{Bool, true, false, cond}
-use mathlib.Core.List.{List, [], _∷_, _++_, append-assoc, append-nil}
+use mathlib.Core.List.{List, [], _∷_, _++_, append-assoc}
 use Prim.Native.Nat.{ℕ, zero, suc, _+_, _-_, _≤_, _<_}
 use native.Mathlib.Omega.{arith}
 use borrow.Author.Tests.{le-leb, lt-leb}
@@ -19,6 +19,7 @@ use Rattle.dual.specs.Encoding.{encodeFields, encodeDual}
 use Rattle.dual.specs.Length.{rulesLength, dualLength}
 use Rattle.dual.specs.declared.DualWritten.the-variants.{Length, Short}
 use Rattle.dual.specs.Answers.{dualOf, writtenTold, dualTold, filled, dualAfter}
+use Rattle.dual.proofs.AllEntries.{entries-more}
 use Rattle.dual.proofs.Lengths.{dual-length}
 use Rattle.dual.proofs.ReadBack.{encodeFields-append}
 use Rattle.dual.proofs.FilledLaws.{filled-part}
@@ -53,14 +54,8 @@ module _ (p : Program) where
       let f : o + 1 + a ≡ o + suc a = omega arith in
       rw e (ap (λ (l : List Field). entryIfAny p o ++ l) (entries-split a b (o + 1)) ∙ sym (append-assoc (entryIfAny p o) (entriesFrom p a (o + 1)) (entriesFrom p b (o + 1 + a)))) ∙ ap (λ (k : ℕ). (entryIfAny p o ++ entriesFrom p a (o + 1)) ++ entriesFrom p b k) f
 
-  entries-more : (o : ℕ) → entriesFrom p (o + 1) 0 ≡ entriesFrom p o 0 ++ entryIfAny p o
-  unfolding entriesFrom
-  entries-more o =
-      let f : 0 + o ≡ o = omega arith in
-      entries-split o 1 0 ∙ ap (λ (k : ℕ). entriesFrom p o 0 ++ (entryIfAny p k ++ [])) f ∙ ap (λ (l : List Field). entriesFrom p o 0 ++ l) (append-nil (entryIfAny p o))
-
   bytes-more : (o : ℕ) → encodeFields (entriesFrom p (o + 1) 0) ≡ encodeFields (entriesFrom p o 0) ++ encodeFields (entryIfAny p o)
-  bytes-more o = ap encodeFields (entries-more o) ∙ encodeFields-append (entriesFrom p o 0) (entryIfAny p o)
+  bytes-more o = ap encodeFields (entries-more p o) ∙ encodeFields-append (entriesFrom p o 0) (entryIfAny p o)
 
   pub table-length : length (encodeFields (dual p)) + 3 ≡ dualLength p
   unfolding encodeDual encodeField

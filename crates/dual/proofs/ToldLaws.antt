@@ -1,8 +1,9 @@
 -- What is told of the dual fixes the answer: it is found again from that.
 -- Assumes nothing.
-use mathlib.Core.Path.{_≡_, refl, sym, ap, _∙_}
+use mathlib.Core.Path.{_≡_, refl}
 use Prim.Native.Nat.{ℕ}
 use Rattle.papers.specs.Outcome.{refusal}
+use Rattle.papers.proofs.ToldLaws.{told-fixes}
 use Rattle.papers.specs.Told.{Told, tells, refusedBy, refusedAt, bareTold, refusalTold}
 use Rattle.dual.specs.declared.DualWritten.{DualWritten}
 use Rattle.dual.specs.declared.DualWritten.the-variants.{Length, Short, Refused}
@@ -21,4 +22,4 @@ written-from Short = refl
 written-from (Refused r) = refl
 
 pub written-fixed : {r s : DualWritten} → writtenTold r ≡ writtenTold s → r ≡ s
-written-fixed {r} {s} e = sym (written-from r) ∙ ap writtenFrom e ∙ written-from s
+written-fixed = told-fixes writtenTold writtenFrom written-from

@@ -1,11 +1,11 @@
 -- What is told of a judgement fixes the answer: it is found again from that.
 -- Assumes nothing.
-use mathlib.Core.Path.{_≡_, refl, sym, ap, _∙_}
+use mathlib.Core.Path.{_≡_, refl}
 use Rattle.papers.specs.declared.Bare.{Bare}
 use Rattle.papers.specs.declared.Bare.the-variants as bare
 use Rattle.papers.specs.Outcome.{refusal}
 use Rattle.papers.specs.Told.{Told, tells, refusedBy, refusedAt, bareTold, refusalTold}
-use Rattle.papers.proofs.ToldLaws.{bareFrom}
+use Rattle.papers.proofs.ToldLaws.{bareFrom, told-fixes}
 use Rattle.judging.specs.declared.Judged.{Judged}
 use Rattle.judging.specs.declared.Judged.the-variants as answer
 use Rattle.judging.specs.Judging.{Verdict, judgedTold}
@@ -31,4 +31,4 @@ judged-from answer.NoScenario = refl
 judged-from (answer.Refused r) = refl
 
 pub judged-fixed : {r s : Judged} → judgedTold r ≡ judgedTold s → r ≡ s
-judged-fixed {r} {s} e = sym (judged-from r) ∙ ap judgedFrom e ∙ judged-from s
+judged-fixed = told-fixes judgedTold judgedFrom judged-from

@@ -18,6 +18,15 @@ use Rattle.papers.specs.Reading.{Papers}
 use Rattle.papers.specs.Answers.{contentsOf, fileAnswer, papersAnswer}
 use Rattle.papers.specs.Told.{Told, tells, refusedBy, refusedAt, bareNumber, refusalTold, readTold, fileTold, papersOf, papersTold}
 
+-- ---- any answer: what is told fixes it where it is found again from that
+
+module _ {R X : Type 0} (told : R → X) (from : X → R) (found : (r : R) → from (told r) ≡ r) where
+  pub told-of : {r : R} {x : X} → told r ≡ x → r ≡ from x
+  told-of {r} e = sym (found r) ∙ ap from e
+
+  pub told-fixes : {r s : R} → told r ≡ told s → r ≡ s
+  told-fixes {r} {s} e = told-of e ∙ found s
+
 -- ---- a refusal that names no paper: no two have one number
 
 abbrev pub bareFrom : ℕ → Bare
@@ -46,7 +55,7 @@ file-from (file.Accepted contents) = refl
 file-from (file.Refused r) = refl
 
 pub file-fixed : {r s : FileRead} → fileTold r ≡ fileTold s → r ≡ s
-file-fixed {r} {s} e = sym (file-from r) ∙ ap fileFrom e ∙ file-from s
+file-fixed = told-fixes fileTold fileFrom file-from
 
 file-back : (o : Outcome Program) → fileFrom (readTold contentsOf o) ≡ fileAnswer o
 unfolding readTold refusalTold
@@ -55,7 +64,7 @@ file-back (refused r) = refl
 
 -- What `read_file` ensures, as its callers take it apart.
 pub file-told : {r : FileRead} (o : Outcome Program) → fileTold r ≡ readTold contentsOf o → r ≡ fileAnswer o
-file-told {r} o e = sym (file-from r) ∙ ap fileFrom e ∙ file-back o
+file-told o e = told-of fileTold fileFrom file-from e ∙ file-back o
 
 -- As it comes to ensure it.
 pub file-tells : {r : FileRead} (o : Outcome Program) → r ≡ fileAnswer o → fileTold r ≡ readTold contentsOf o
@@ -76,7 +85,7 @@ papers-from (papers.Accepted contents literals) = refl
 papers-from (papers.Refused r) = refl
 
 pub papers-fixed : {r s : PapersRead} → papersTold r ≡ papersTold s → r ≡ s
-papers-fixed {r} {s} e = sym (papers-from r) ∙ ap papersFrom e ∙ papers-from s
+papers-fixed = told-fixes papersTold papersFrom papers-from
 
 papers-back : (o : Outcome Papers) → papersFrom (readTold papersOf o) ≡ papersAnswer o
 unfolding readTold refusalTold
@@ -85,7 +94,7 @@ papers-back (refused r) = refl
 
 -- What `read_papers` ensures, as its callers take it apart.
 pub papers-told : {r : PapersRead} (o : Outcome Papers) → papersTold r ≡ readTold papersOf o → r ≡ papersAnswer o
-papers-told {r} o e = sym (papers-from r) ∙ ap papersFrom e ∙ papers-back o
+papers-told o e = told-of papersTold papersFrom papers-from e ∙ papers-back o
 
 -- As it comes to ensure it.
 pub papers-tells : {r : PapersRead} (o : Outcome Papers) → r ≡ papersAnswer o → papersTold r ≡ readTold papersOf o

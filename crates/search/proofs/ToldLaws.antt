@@ -1,11 +1,11 @@
 -- What is told of a call fixes the answer: it is found again from that.
 -- Assumes nothing.
-use mathlib.Core.Path.{_≡_, refl, sym, ap, _∙_}
+use mathlib.Core.Path.{_≡_, refl}
 use Rattle.papers.specs.declared.Bare.{Bare}
 use Rattle.papers.specs.declared.Bare.the-variants as bare
 use Rattle.papers.specs.Outcome.{refusal}
 use Rattle.papers.specs.Told.{Told, tells, refusedBy, refusedAt, bareTold, refusalTold}
-use Rattle.papers.proofs.ToldLaws.{bareFrom}
+use Rattle.papers.proofs.ToldLaws.{bareFrom, told-of, told-fixes}
 use Rattle.search.specs.declared.Report.{Report}
 use Rattle.search.specs.declared.Continued.{Continued}
 use Rattle.search.specs.declared.Continued.the-variants.{Reported, ShortDual, SpoiltSearch, Refused}
@@ -31,8 +31,8 @@ continued-from SpoiltSearch = refl
 continued-from (Refused r) = refl
 
 pub continued-fixed : {r s : Continued} → continuedTold r ≡ continuedTold s → r ≡ s
-continued-fixed {r} {s} e = sym (continued-from r) ∙ ap continuedFrom e ∙ continued-from s
+continued-fixed = told-fixes continuedTold continuedFrom continued-from
 
 -- Where a report is told, it was the answer.
 pub reported-told : {r : Continued} {x : Report} → continuedTold r ≡ tells x → r ≡ Reported x
-reported-told {r} {x} e = sym (continued-from r) ∙ ap continuedFrom e
+reported-told = told-of continuedTold continuedFrom continued-from
