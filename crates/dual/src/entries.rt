@@ -33,7 +33,10 @@ fn rules_length(
     o: Objective,
 ) -> usize
     requires { ⌜ Walked (now file) contents (now places) × (ChainsOf (programIn (now file)) (now first) (now next) × (o .0 < 513)) ⌝ }
-    ensures { λ r. ⌜ (r ≡ cond (isFact (allRules (programIn (now (file .entry)))) (o .0)) 0 (5 + rulesLength (allRules (programIn (now (file .entry)))) (o .0))) × (r < 65536) ⌝ }
+    ensures { λ r. ⌜
+        (r ≡ cond (isFact (allRules (programIn (now (file .entry)))) (o .0)) 0 (5 + rulesLength (allRules (programIn (now (file .entry)))) (o .0)))
+        × (r < 65536)
+        ⌝ }
 {
     let at = o.0;
     let start = first[at];
@@ -73,7 +76,10 @@ pub(crate) fn entry_length(
     o: Objective,
 ) -> usize
     requires { ⌜ Walked (now file) contents (now places) × (ChainsOf (programIn (now file)) (now first) (now next) × (o .0 < 513)) ⌝ }
-    ensures { λ r. ⌜ (r ≡ cond (hasEntry (programIn (now (file .entry))) (o .0)) (5 + rulesLength (allRules (programIn (now (file .entry)))) (o .0)) 0) × (r < 65536) ⌝ }
+    ensures { λ r. ⌜
+        (r ≡ cond (hasEntry (programIn (now (file .entry))) (o .0)) (5 + rulesLength (allRules (programIn (now (file .entry)))) (o .0)) 0)
+        × (r < 65536)
+        ⌝ }
 {
     if is_abducible(file, contents, o) {
         return 0;
@@ -113,8 +119,16 @@ fn write_entry(
     next: &[usize; 1280],
     o: Objective,
 ) -> usize
-    requires { ⌜ Walked (now file) contents (now places) × (ChainsOf (programIn (now file)) (now first) (now next) × ((o .0 < 513) × (length (encodeFields (entry (programIn (now file)) (o .0))) ≤ length (now buffer)))) ⌝ }
-    ensures { λ r. ⌜ (r ≡ length (encodeFields (entry (programIn (now (file .entry))) (o .0)))) × (now (buffer .exit) ≡ filled (encodeFields (entry (programIn (now (file .entry))) (o .0))) (now (buffer .entry))) ⌝ }
+    requires { ⌜
+        Walked (now file) contents (now places)
+        × (ChainsOf (programIn (now file)) (now first) (now next)
+        × ((o .0 < 513)
+        × (length (encodeFields (entry (programIn (now file)) (o .0))) ≤ length (now buffer))))
+        ⌝ }
+    ensures { λ r. ⌜
+        (r ≡ length (encodeFields (entry (programIn (now (file .entry))) (o .0))))
+        × (now (buffer .exit) ≡ filled (encodeFields (entry (programIn (now (file .entry))) (o .0))) (now (buffer .entry)))
+        ⌝ }
 {
     let at = o.0;
     let number = first[at];
@@ -140,8 +154,16 @@ fn write_any_entry(
     next: &[usize; 1280],
     o: Objective,
 ) -> usize
-    requires { ⌜ Walked (now file) contents (now places) × (ChainsOf (programIn (now file)) (now first) (now next) × ((o .0 < 513) × (length (encodeFields (entryIfAny (programIn (now file)) (o .0))) ≤ length (now buffer)))) ⌝ }
-    ensures { λ r. ⌜ (r ≡ length (encodeFields (entryIfAny (programIn (now (file .entry))) (o .0)))) × (now (buffer .exit) ≡ filled (encodeFields (entryIfAny (programIn (now (file .entry))) (o .0))) (now (buffer .entry))) ⌝ }
+    requires { ⌜
+        Walked (now file) contents (now places)
+        × (ChainsOf (programIn (now file)) (now first) (now next)
+        × ((o .0 < 513)
+        × (length (encodeFields (entryIfAny (programIn (now file)) (o .0))) ≤ length (now buffer))))
+        ⌝ }
+    ensures { λ r. ⌜
+        (r ≡ length (encodeFields (entryIfAny (programIn (now (file .entry))) (o .0))))
+        × (now (buffer .exit) ≡ filled (encodeFields (entryIfAny (programIn (now (file .entry))) (o .0))) (now (buffer .entry)))
+        ⌝ }
 {
     if entry_length(file, contents, places, first, next, o) == 0 {
         return 0;
@@ -158,8 +180,15 @@ pub(crate) fn write_entries(
     first: &[usize; 513],
     next: &[usize; 1280],
 ) -> usize
-    requires { ⌜ Walked (now file) contents (now places) × (ChainsOf (programIn (now file)) (now first) (now next) × (dualLength (programIn (now file)) ≤ length (now buffer))) ⌝ }
-    ensures { λ r. ⌜ (r ≡ length (encodeFields (dual (programIn (now (file .entry)))))) × (now (buffer .exit) ≡ filled (encodeFields (dual (programIn (now (file .entry))))) (now (buffer .entry))) ⌝ }
+    requires { ⌜
+        Walked (now file) contents (now places)
+        × (ChainsOf (programIn (now file)) (now first) (now next)
+        × (dualLength (programIn (now file)) ≤ length (now buffer)))
+        ⌝ }
+    ensures { λ r. ⌜
+        (r ≡ length (encodeFields (dual (programIn (now (file .entry))))))
+        × (now (buffer .exit) ≡ filled (encodeFields (dual (programIn (now (file .entry))))) (now (buffer .entry)))
+        ⌝ }
 {
     let judged = literals::judged(contents.atoms);
     let mut end: usize = 0;

@@ -34,8 +34,16 @@ fn put_heading(buffer: &mut [u8], tag: u8, size: usize, number: usize)
 
 // 09: the fold number, and the default conjugate of each body literal.
 pub(crate) fn write_fold(buffer: &mut [u8], fold: Fold, body: &[u8]) -> usize
-    requires { ⌜ (5 + length (now body) ≤ length (now buffer)) × ((fold .0 < 65536) × ((length (now body) ≤ 32) × (length (now body) ≡ 2 * length (numbers (now body))))) ⌝ }
-    ensures { λ r. ⌜ (r ≡ 5 + length (now (body .entry))) × (now (buffer .exit) ≡ filled (encodeField 0x09 (encodeNumbers (fold .0 ∷ map defaultConjugate (numbers (now (body .entry)))))) (now (buffer .entry))) ⌝ }
+    requires { ⌜
+        (5 + length (now body) ≤ length (now buffer))
+        × ((fold .0 < 65536)
+        × ((length (now body) ≤ 32)
+        × (length (now body) ≡ 2 * length (numbers (now body)))))
+        ⌝ }
+    ensures { λ r. ⌜
+        (r ≡ 5 + length (now (body .entry)))
+        × (now (buffer .exit) ≡ filled (encodeField 0x09 (encodeNumbers (fold .0 ∷ map defaultConjugate (numbers (now (body .entry)))))) (now (buffer .entry)))
+        ⌝ }
 {
     let size = body.len();
     put_heading(buffer, 0x09, 2 + size, fold.0);
@@ -70,8 +78,15 @@ pub(crate) fn write_literal(
     start: Fold,
     o: Objective,
 ) -> usize
-    requires { ⌜ Chain (now next) (start .0) (foldsAt (now next) (start .0)) × ((5 + 2 * length (foldsAt (now next) (start .0)) ≤ length (now buffer)) × (o .0 < 65536)) ⌝ }
-    ensures { λ r. ⌜ (r ≡ 5 + 2 * length (foldsAt (now (next .entry)) (start .0))) × (now (buffer .exit) ≡ filled (encodeField 0x08 (encodeNumbers (o .0 ∷ foldsAt (now (next .entry)) (start .0)))) (now (buffer .entry))) ⌝ }
+    requires { ⌜
+        Chain (now next) (start .0) (foldsAt (now next) (start .0))
+        × ((5 + 2 * length (foldsAt (now next) (start .0)) ≤ length (now buffer))
+        × (o .0 < 65536))
+        ⌝ }
+    ensures { λ r. ⌜
+        (r ≡ 5 + 2 * length (foldsAt (now (next .entry)) (start .0)))
+        × (now (buffer .exit) ≡ filled (encodeField 0x08 (encodeNumbers (o .0 ∷ foldsAt (now (next .entry)) (start .0)))) (now (buffer .entry)))
+        ⌝ }
 {
     let count = fold_count(next, start);
     put_heading(buffer, 0x08, 2 + 2 * count, o.0);

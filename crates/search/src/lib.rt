@@ -56,7 +56,8 @@ fn continue_accepted(
     allowance: u32,
 ) -> Continued
     requires { ⌜ papersAnswer (readPapers (now file) (now sheet)) ≡ PapersRead.Accepted contents literals ⌝ }
-    ensures { λ r. ⌜ Answers (readPapers (now (file .entry)) (now (sheet .entry))) allowance (now (dual .entry)) from (now (list .entry)) r (now (dual .exit)) (now (list .exit)) ⌝ }
+    ensures { λ r. ⌜ Answers (readPapers (now (file .entry)) (now (sheet .entry))) allowance (now (dual .entry)) from (now (list .entry))
+        r (now (dual .exit)) (now (list .exit)) ⌝ }
 {
     let total = scenario_count(contents.abducibles);
     let spoilt = is_spoilt(list, from.position, from.found, total);

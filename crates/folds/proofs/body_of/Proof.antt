@@ -57,13 +57,15 @@ module _ (c : tie.After-field-end) where
   after-head h =
       body-there (file known) (s .args .contents) (now (s .args .places)) (s .pre .0) (λ k. known .shared-slice-known .given k .fits) (fold known) (s .pre .1)
       (place known + 5) end (c .field-end .ensures)
-      (body-headed (file known) (s .args .contents) (now (s .args .places)) (s .pre .0) (λ k. known .shared-slice-known .given k .fits) (fold known) (s .pre .1) h)
+      (body-headed (file known) (s .args .contents) (now (s .args .places)) (s .pre .0) (λ k. known .shared-slice-known .given k .fits) (fold known)
+      (s .pre .1) h)
 
   after-heading : s .args .contents .rules .count ≤ fold known → Between (place known + 3)
   after-heading h =
       body-there (file known) (s .args .contents) (now (s .args .places)) (s .pre .0) (λ k. known .shared-slice-known .given k .fits) (fold known) (s .pre .1)
       (place known + 3) end (c .field-end .ensures)
-      (body-bare (file known) (s .args .contents) (now (s .args .places)) (s .pre .0) (λ k. known .shared-slice-known .given k .fits) (fold known) (s .pre .1) h)
+      (body-bare (file known) (s .args .contents) (now (s .args .places)) (s .pre .0) (λ k. known .shared-slice-known .given k .fits) (fold known)
+      (s .pre .1) h)
 
 mul-place : tie.Need-mul-place
 mul-place c = omega (arith, few (c .before))

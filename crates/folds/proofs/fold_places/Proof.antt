@@ -66,7 +66,11 @@ field-end-requires : tie.Need-field-end-requires Inv-loop μ-loop
 field-end-requires c κs =
     let head = c .before in
     let s = start head in
-    omega (arith, fold-heading (now (s .args .file)) (s .args .contents) (s .pre) (λ k. known head .shared-slice-known .given k .fits) (head .loop .i) (c .loop-test .taken))
+    omega (
+      arith,
+      fold-heading (now (s .args .file)) (s .args .contents) (s .pre) (λ k. known head .shared-slice-known .given k .fits) (head .loop .i)
+          (c .loop-test .taken),
+    )
 
 add-i : tie.Need-add-i Inv-loop μ-loop
 add-i c = omega (arith, few (start (c .before .before)))
@@ -82,7 +86,8 @@ loop-again c =
       omega arith,
       (
         c .field-end .ensures
-            ∙ next-place (now (s .args .file)) (s .args .contents) (s .pre) (λ k. known head .shared-slice-known .given k .fits) (at .i) (c .before .loop-test .taken) (at .inv .1 .0),
+            ∙ next-place (now (s .args .file)) (s .args .contents) (s .pre) (λ k. known head .shared-slice-known .given k .fits) (at .i)
+            (c .before .loop-test .taken) (at .inv .1 .0),
         (
           simp length-set (at .inv .1 .1 .0),
           (

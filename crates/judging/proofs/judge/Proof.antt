@@ -128,7 +128,9 @@ module _ (c : tie.Else2) where
   fits = dual-fits (program (taken written)) (now (begun .args .dual)) (written .write-accepted .ensures .0) (c .before .before .enum-told2 .given .1)
 
   dual-is : written .write-accepted .last .1 .1 .1 .0 ≡ filled (dualOf (papers (taken written) .program)) (now (begun .args .dual))
-  dual-is = dual-filled (program (taken written)) (room written && listed written) (now (begun .args .dual)) (written .write-accepted .ensures .1) (rw (big, within)) fits
+  dual-is =
+      dual-filled (program (taken written)) (room written && listed written) (now (begun .args .dual)) (written .write-accepted .ensures .1)
+      (rw (big, within)) fits
 
 read-papers-requires : tie.Need-read-papers-requires
 read-papers-requires c κs = search needs

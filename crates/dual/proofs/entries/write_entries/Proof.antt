@@ -108,7 +108,8 @@ loop-again c =
       omega arith,
       (
         rw (put-end end buffer part)
-            (tabled-more (program s) (now (s .args .buffer)) buffer (head .loop .o) end (head .loop .inv .1 .0) part (wrote .result) written (wrote .ensures .0)),
+            (tabled-more (program s) (now (s .args .buffer)) buffer (head .loop .o) end (head .loop .inv .1 .0) part (wrote .result) written
+            (wrote .ensures .0)),
         same-len-mid end (length buffer - end) buffer part (wrote .kept .0) ∙ head .loop .inv .1 .1,
       ),
     )

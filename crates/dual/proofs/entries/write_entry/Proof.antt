@@ -18,7 +18,8 @@ use Rattle.dual.specs.Table.{foldsOf}
 use Rattle.dual.specs.Chains.{Chain, foldsAt}
 use Rattle.dual.specs.Answers.{filled}
 use Rattle.dual.proofs.Folds.{FoldIn}
-use Rattle.dual.proofs.EntryWriting.{foldBytes, oneFold, folds-there, Entered, entered-none, entered-done, entered-fold, entered-rises, entered-room, entered-next, one-length, entry-parts, entry-written}
+use Rattle.dual.proofs.EntryWriting.{foldBytes, oneFold, folds-there, Entered, entered-none, entered-done, entered-fold, entered-rises}
+use Rattle.dual.proofs.EntryWriting.{entered-room, entered-next, one-length, entry-parts, entry-written}
 use Rattle.dual.proofs.entries.write_entry.Statement.{statement}
 use Rattle.dual.proofs.entries.write_entry.Tie as tie
 
@@ -90,7 +91,9 @@ module _ (c : tie.After-write-fold Inv-loop μ-loop) where
   turn = body .before
 
   size : c .write-fold .result ≡ length (field turn)
-  size = omega (arith, one-length (allRules (program (start (literal turn)))) (head turn .loop .fold .0), c .write-fold .ensures .0, body .body-of .ensures .size)
+  size =
+      let one = one-length (allRules (program (start (literal turn)))) (head turn .loop .fold .0) in
+      omega (arith, one, c .write-fold .ensures .0, body .body-of .ensures .size)
 
   -- It ends within the buffer.
   ends : head turn .loop .end + c .write-fold .result ≤ length (now (start (literal turn) .args .buffer))
@@ -113,7 +116,8 @@ loop-holds : tie.Need-loop-holds Inv-loop μ-loop
 loop-holds c =
     let w = c .before .before in
     let s = start w in
-    (entered-none (program s) (now (s .args .next)) (s .args .o .0) (w .write-literal .result) (w .write-literal .last .0) _ (omega (arith, fits w)) (chain s), refl)
+    let l = w .write-literal in
+    (entered-none (program s) (now (s .args .next)) (s .args .o .0) (l .result) (l .last .0) _ (omega (arith, fits w)) (chain s), refl)
 
 body-of-requires : tie.Need-body-of-requires Inv-loop μ-loop
 body-of-requires c κs = (start (literal c) .pre .0, of-literal c .below)

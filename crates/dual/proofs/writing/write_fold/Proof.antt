@@ -94,7 +94,8 @@ loop-again c =
       omega arith,
       (
         rw (put .ensures)
-            (conjugated-more _ _ _ _ (at .inv .1 .0) (fits h) (literal w .before .loop-test .taken) (literal w .literal-at .ensures .0) (w .default-conjugate .ensures)),
+            (conjugated-more _ _ _ _ (at .inv .1 .0) (fits h) (literal w .before .loop-test .taken) (literal w .literal-at .ensures .0)
+            (w .default-conjugate .ensures)),
         put .kept .0 ∙ at .inv .1 .1,
       ),
     )

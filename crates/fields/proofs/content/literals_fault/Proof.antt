@@ -46,7 +46,9 @@ returns c =
     let begun = turn tested in
     let a = start (begun .before) .args in
     let unlisted = sym (tested .is-literal-listed .ensures) ∙ not-true _ (c .if1 .taken) in
-    sym (begun .before .loop .inv .1 ∙ literals-stop (now (a .content)) _ (a .atoms) (begun .loop-test .taken) (tested .before .literal-at .ensures .0) unlisted)
+    sym
+    (begun .before .loop .inv .1
+    ∙ literals-stop (now (a .content)) _ (a .atoms) (begun .loop-test .taken) (tested .before .literal-at .ensures .0) unlisted)
 
 add-i : tie.Need-add-i Inv-loop μ-loop
 add-i c = search needs
