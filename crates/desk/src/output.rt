@@ -8,7 +8,7 @@ ghost use Rattle.report.specs.Text.{Put};
 ghost use Rattle.desk.specs.Search.{AcceptedAs};
 ghost use Rattle.desk.specs.Output.{foundLines, deskText};
 use crate::searching::search_all;
-use lanes::digits::scenario_count;
+use model::scenario_count;
 use papers::Contents;
 use papers::PapersRead;
 

@@ -4,12 +4,8 @@ pub mod ReadBack
 pub mod Lengths
 pub mod Bound
 pub mod Folds
-pub mod ChainLaws
+-- A buffer that is filled from its start.
 pub mod FilledLaws
-pub mod WritingLaws
-pub mod EntryWriting
-pub mod TableWriting
-pub mod EntryLaws
 -- What is told of an answer fixes it.
 pub mod ToldLaws
 pub mod BothPapers

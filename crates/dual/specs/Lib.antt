@@ -2,5 +2,4 @@
 pub mod Table
 pub mod Encoding
 pub mod Length
-pub mod Chains
 pub mod Answers

@@ -5,11 +5,11 @@ ghost use Prim.Native.Nat.{_+_, _<_};
 ghost use lib.ListN.{length};
 ghost use Rattle.papers.specs.Field.{numbers};
 ghost use Rattle.papers.specs.Content.{abduciblesFault, literalsFault, isAmong, ruleFault, bodyFault};
-use crate::numbered::atom_at;
-use crate::numbered::literal_at;
-use crate::numbered::objective_at;
 use literals::Atom;
 use literals::AtomOf;
+use numbered::atom_at;
+use numbered::literal_at;
+use numbered::objective_at;
 
 pub fn literals_fault(content: &[u8], atoms: u16) -> u8
     ensures { λ r. ⌜ r ≡ literalsFault atoms (numbers (now (content .entry))) ⌝ }

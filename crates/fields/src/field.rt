@@ -1,29 +1,13 @@
 // One field: one-byte tag, two-byte length, content.
 ghost use mathlib.Core.Path.{_≡_};
-ghost use Prim.Native.Nat.{_+_, _≤_, _<_};
+ghost use Prim.Native.Nat.{_≤_};
 ghost use lib.ListN.{length, getD, drop};
-ghost use Rattle.papers.specs.Field.{numberIn, fewest, most, lengthAllowed, fieldFault, readField};
+ghost use Rattle.papers.specs.Field.{fewest, most, lengthAllowed, fieldFault, readField};
 ghost use Rattle.papers.specs.Answers.{fieldAnswer};
+use numbered::number_at;
 use papers::FieldRead;
 use papers::Paper;
 use papers::Refusal;
-
-// A byte as a number, with its bound.
-fn wide(b: u8) -> usize
-    ensures { λ r. ⌜ (r ≡ b) × (r < 256) ⌝ }
-{
-    b as usize
-}
-
-// The two-byte number at a place, high byte first.
-pub fn number_at(bytes: &[u8], place: usize) -> usize
-    requires { ⌜ place + 1 < length (now bytes) ⌝ }
-    ensures { λ r. ⌜ (r ≡ numberIn (now (bytes .entry)) place) × (r < 65536) ⌝ }
-{
-    let high = wide(bytes[place]);
-    let low = wide(bytes[place + 1]);
-    high * 256 + low
-}
 
 // The tag at a place, and 0, which is none, past the end.
 pub fn tag_at(bytes: &[u8], place: usize) -> u8

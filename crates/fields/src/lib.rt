@@ -1,4 +1,3 @@
-// One field of a paper: its heading, its length, its numbers, and the tests of its content.
+// One field of a paper: its heading, its length, and the tests of its content.
 pub mod content;
 pub mod field;
-pub mod numbered;

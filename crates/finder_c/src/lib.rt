@@ -81,7 +81,7 @@ pub extern "C" fn finder_write_dual(file: &[u8], dual: &mut [u8], out: &mut [u64
         × (now (dual .exit) ≡ dualAfter (readFile (now (file .entry))) (now (dual .entry)))
         ⌝ }
 {
-    let written = dual::write_dual(file, dual);
+    let written = dual_writer::write_dual(file, dual);
     *out = dual_words(written);
 }
 

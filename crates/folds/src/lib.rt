@@ -9,10 +9,10 @@ ghost use Rattle.papers.specs.Field.{sizeOf};
 ghost use Rattle.papers.specs.Reading.{readFile, programIn};
 ghost use Rattle.papers.specs.Answers.{fileAnswer};
 ghost use Rattle.papers.specs.Places.{Walked, BodyOf};
-use fields::field::number_at;
-use fields::numbered::objective_at;
 use literals::Fold;
 use literals::Objective;
+use numbered::number_at;
+use numbered::objective_at;
 use papers::Contents;
 
 // The place after the field at a place.

@@ -15,8 +15,8 @@ use Rattle.papers.specs.Reading.{Papers}
 use Rattle.dual.specs.Answers.{dualOf, filled}
 use Rattle.model.specs.Model.{rounds, valueBytes, modelBytes, explains}
 use Rattle.lanes.specs.Lanes.{lane}
-use Rattle.lanes.specs.RoundLanes.{SettledLanes}
-use Rattle.lanes.specs.VerdictLanes.{VerdictLanes}
+use Rattle.settling.specs.RoundLanes.{SettledLanes}
+use Rattle.settling.specs.VerdictLanes.{VerdictLanes}
 use Rattle.judging.specs.declared.Judged.{Judged}
 use Rattle.judging.specs.declared.Judged.the-variants.{Verdict, ShortDual, ShortModel, NoScenario, Refused}
 use Rattle.judging.specs.Judging.{scenarioCount, judgedTold, hindrance, judgeTold, dualJudged, modelJudged}

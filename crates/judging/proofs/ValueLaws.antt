@@ -13,7 +13,7 @@ use Rattle.papers.specs.Program.{Program}
 use Rattle.dual.specs.Answers.{filled}
 use Rattle.model.specs.Model.{model, valueByte, valueBytes, modelBytes}
 use Rattle.lanes.specs.Lanes.{inLane, lane}
-use Rattle.lanes.specs.RoundLanes.{SettledLanes}
+use Rattle.settling.specs.RoundLanes.{SettledLanes}
 use Rattle.lanes.proofs.LaneLaws.{sized, has-lane}
 use Rattle.model.proofs.ByteLaws.{bytes-length, bytes-at}
 

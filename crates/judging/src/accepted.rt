@@ -8,12 +8,12 @@ ghost use Rattle.papers.specs.Reading.{programIn};
 ghost use Rattle.dual.specs.Answers.{filled};
 ghost use Rattle.judging.specs.declared.Judged.{Judged};
 ghost use Rattle.model.specs.Model.{rounds, modelBytes, explains};
-ghost use Rattle.lanes.specs.VerdictLanes.{Prepared};
+ghost use Rattle.settling.specs.VerdictLanes.{Prepared};
 use crate::Judged;
 use crate::values::write_values;
-use lanes::settling::settle;
-use lanes::verdicts::explained_lanes;
 use papers::Contents;
+use settling::settle;
+use settling::verdicts::explained_lanes;
 
 // Over accepted papers, with the dual in its buffer and room for the model.
 pub(crate) fn judge_accepted(

@@ -8,7 +8,7 @@ ghost use Rattle.papers.specs.Reading.{readPapers};
 ghost use Rattle.judging.specs.Judging.{judgedTold, judgeTold, dualJudged, modelJudged};
 use accepted::judge_accepted;
 use dual::DualWritten;
-use lanes::digits::scenario_count;
+use model::scenario_count;
 use papers::PapersRead;
 use papers::Refusal;
 
@@ -38,7 +38,7 @@ pub fn judge(file: &[u8], sheet: &[u8], scenario: u32, dual: &mut [u8], model: &
     let room = literals::judged(contents.atoms) <= model.len();
     let listed = scenario < scenario_count(contents.abducibles);
     let places = folds::fold_places(file, contents);
-    let written = dual::write_accepted(file, contents, &places, dual, room & listed);
+    let written = dual_writer::write_accepted(file, contents, &places, dual, room & listed);
     let DualWritten::Length(_) = written else {
         return Judged::ShortDual;
     };

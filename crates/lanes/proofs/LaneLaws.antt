@@ -16,7 +16,7 @@ use lib.Pow.{high, low, ones-split, ones-lt, shr-shr}
 use Rattle.papers.proofs.Lists.{getD-zeros}
 use Rattle.model.specs.Tests.{_and_, _or_}
 use Rattle.model.specs.Sets.{has, complement, sameFlag}
-use Rattle.lanes.specs.Lanes.{inLane, lane}
+use Rattle.lanes.specs.Lanes.{inLane, lane, NoneBeyond}
 use Rattle.lanes.specs.Words.{ComplementWords, Laned, total}
 use Rattle.model.proofs.SetLaws.{length-setOf, has-setOf, length-complement, has-complement, set-ext}
 
@@ -172,11 +172,19 @@ pub has-lane : (n l o : ℕ) (words : List ℕ) → o < n → has (lane n l word
 unfolding lane
 has-lane n l o words h = has-setOf _ n o h
 
+-- ---- past the words that a loop has passed
+
+pub none-zeros : NoneBeyond 0 (replicate 513 0)
+none-zeros = record { at = λ o h. getD-zeros 513 o }
+
+pub none-set : (o x : ℕ) (words : List ℕ) → NoneBeyond o words → NoneBeyond (o + 1) (set words o x)
+none-set o x words n = record { at = λ j h. getD-set-other words o j x 0 (λ e. absurd (omega arith)) ∙ n .at j (omega arith) }
+
 -- ---- the other lanes
 
 module _ (words : List ℕ) where
   pub complement-none : ComplementWords 0 words (replicate 513 0)
-  complement-none = record { at = λ l o h k. absurd (omega arith); beyond = record { at = λ o h. getD-zeros 513 o } }
+  complement-none = record { at = λ l o h k. absurd (omega arith); beyond = none-zeros }
 
   pub complement-more : (o : ℕ) (after : List ℕ) → Laned words → o < length after → ComplementWords o words after
       → ComplementWords (o + 1) words (set after o (18446744073709551615 - getD words o 0))
@@ -185,7 +193,7 @@ module _ (words : List ℕ) where
       | yes e ↦ rw (e, getD-set-same after o (18446744073709551615 - getD words o 0) 0 h) (lane-not l (getD words o 0) k (w .fits o))
       | no e ↦ rw (getD-set-other after o j (18446744073709551615 - getD words o 0) 0 e) (c .at l j k (omega arith))
     ];
-    beyond = record { at = λ j k. getD-set-other after o j _ 0 (λ e. absurd (omega arith)) ∙ c .beyond .at j (omega arith) };
+    beyond = none-set o (18446744073709551615 - getD words o 0) after (c .beyond);
   }
 
 -- The first words with their other lanes are the other literals, in each lane.

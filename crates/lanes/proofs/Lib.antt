@@ -1,17 +1,10 @@
--- Sixty-four scenarios in words, as the code meets them.
+-- Sixty-four scenarios in words, as the code meets them: the lanes of a word,
 pub mod LaneLaws
 pub mod BitLaws
+-- the words of literals and bodies,
 pub mod WordLaws
-pub mod ClosingLaws
-pub mod FoldWords
-pub mod EntryBytes
-pub mod EntryWords
-pub mod AnyEntry
-pub mod DroppedLaws
-pub mod ClosingFalse
-pub mod DigitLaws
-pub mod SeedLaws
-pub mod ChangeLaws
-pub mod RoundLaws
-pub mod SettlingLaws
-pub mod VerdictLaws
+-- of digits and of abducible literals,
+mod DigitLaws
+mod SeedLaws
+-- and those that a round has changed.
+mod ChangeLaws

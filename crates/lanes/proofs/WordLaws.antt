@@ -9,8 +9,7 @@ use lib.Bits.{bitAnd}
 use lib.ListN.{length, getD, drop}
 use Rattle.literals.specs.Numbering.{objectiveNumber, defaultNegated}
 use Rattle.papers.specs.Field.{numberIn, numbers}
-use Rattle.papers.specs.Valid.{All, each}
-use Rattle.papers.proofs.Lists.{all-each}
+use Rattle.papers.proofs.Lists.{all-each, first-of}
 use Rattle.papers.proofs.Walking.{no-number, read-number}
 use Rattle.model.specs.Tests.{_and_}
 use Rattle.model.specs.Sets.{has}
@@ -48,17 +47,11 @@ pub record WordTo (i : ℕ) (body set negated : List ℕ) (word : ℕ) : Type 0 
       → bodyHolds (lane n l set) (lane n l negated) (numbers body)
       ≡ (inLane l word and bodyHolds (lane n l set) (lane n l negated) (numbers (drop (2 * i) body)))
 
-all-first : {P : ℕ → Type 0} {x : ℕ} {more : List ℕ} → All P (x ∷ more) → P x
-all-first (each p rest) = p
-
-all-more : {P : ℕ → Type 0} {x : ℕ} {more : List ℕ} → All P (x ∷ more) → All P more
-all-more (each p rest) = rest
-
 literals-first : {n x : ℕ} {more : List ℕ} → Literals n (x ∷ more) → Below n x
-literals-first h = all-first (h .below)
+literals-first h = first-of (h .below) .0
 
 literals-more : {n x : ℕ} {more : List ℕ} → Literals n (x ∷ more) → Literals n more
-literals-more h = record { below = all-more (h .below) }
+literals-more h = record { below = first-of (h .below) .1 }
 
 -- Of n objective literals, so of more.
 pub literals-of : {n m : ℕ} {body : List ℕ} → n ≤ m → Literals n body → Literals m body

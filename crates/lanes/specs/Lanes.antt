@@ -41,8 +41,10 @@ pub record AbducibleLanes (p : Program) (base : ℕ) (trues falses : List ℕ) :
 unfoldable pub backingWord : ℕ → List ℕ → List ℕ → ℕ → ℕ
 backingWord n trues falses o = bitOr (cond (listed n o) (getD trues (explicitConjugate o) 0) 0) (getD falses o 0)
 
+-- Of the judged literals; past them none.
 pub record BackingWords (n : ℕ) (trues falses words : List ℕ) : Type 0 where
   pub at : (o : ℕ) → o < judged n → getD words o 0 ≡ backingWord n trues falses o
+  pub beyond : NoneBeyond (judged n) words
 
 -- The lanes in which two rows of words are different sets of n flags.
 pub record Changed (n : ℕ) (before after : List ℕ) (word : ℕ) : Type 0 where

@@ -1,7 +1,3 @@
 -- Sixty-four scenarios at once: bit l of word o says whether o is in the set of lane l.
 pub mod Lanes
 pub mod Words
-pub mod Closing
-pub mod FalseWords
-pub mod RoundLanes
-pub mod VerdictLanes

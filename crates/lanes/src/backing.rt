@@ -19,7 +19,7 @@ fn backing_word(trues: &[u64; 513], falses: &[u64; 513], atoms: u16, o: Objectiv
     trues[opposite] | falses[at]
 }
 
-pub(crate) fn backing_words(trues: &[u64; 513], falses: &[u64; 513], atoms: u16) -> [u64; 513]
+pub fn backing_words(trues: &[u64; 513], falses: &[u64; 513], atoms: u16) -> [u64; 513]
     requires { ⌜ atoms ≤ 256 ⌝ }
     ensures { λ r. ⌜ BackingWords atoms (now (trues .entry)) (now (falses .entry)) r ⌝ }
 {

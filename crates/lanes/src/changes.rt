@@ -3,7 +3,7 @@ ghost use Prim.Native.Nat.{_≤_};
 ghost use Rattle.lanes.specs.Lanes.{Changed};
 
 // The lanes in which the first words of two rows differ.
-pub(crate) fn changed_lanes(before: &[u64; 513], after: &[u64; 513], count: usize) -> u64
+pub fn changed_lanes(before: &[u64; 513], after: &[u64; 513], count: usize) -> u64
     requires { ⌜ count ≤ 513 ⌝ }
     ensures { λ r. ⌜ Changed count (now (before .entry)) (now (after .entry)) r ⌝ }
 {

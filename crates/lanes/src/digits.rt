@@ -1,26 +1,12 @@
 // The digits of 64 scenarios that follow one another, as words: a lane for each scenario.
 ghost use mathlib.Core.Path.{_≡_};
-ghost use Prim.Native.Nat.{_^_, _<_, _≤_};
+ghost use Prim.Native.Nat.{_<_};
 ghost use Rattle.papers.specs.declared.FileRead.{FileRead};
 ghost use Rattle.papers.specs.Reading.{readFile, programIn};
 ghost use Rattle.papers.specs.Answers.{fileAnswer};
 ghost use Rattle.lanes.specs.Lanes.{LaneSet, DigitLanes, AbducibleLanes};
-use fields::numbered::atom_at;
+use numbered::atom_at;
 use papers::Contents;
-
-// How many scenarios there are.
-pub fn scenario_count(abducibles: usize) -> u32
-    requires { ⌜ abducibles ≤ 16 ⌝ }
-    ensures { λ r. ⌜ r ≡ 3 ^ abducibles ⌝ }
-{
-    let mut total: u32 = 1;
-    let mut i: usize = 0;
-    while i < abducibles {
-        total = total * 3;
-        i += 1;
-    }
-    total
-}
 
 // A word with one lane set where a test holds.
 fn lane_if(word: u64, lane: u64, test: bool) -> u64
@@ -31,7 +17,7 @@ fn lane_if(word: u64, lane: u64, test: bool) -> u64
 }
 
 // The lanes of the scenarios from `base` on that have this digit at a power of 3.
-pub(crate) fn digit_lanes(base: u64, power: u64, digit: u64) -> u64
+fn digit_lanes(base: u64, power: u64, digit: u64) -> u64
     requires { ⌜ (base < 4294967296) × (0 < power) ⌝ }
     ensures { λ r. ⌜ DigitLanes base power digit r ⌝ }
 {
@@ -51,7 +37,7 @@ pub struct Abducibles {
     pub falses: [u64; 513],
 }
 
-pub(crate) fn abducible_lanes(file: &[u8], contents: Contents, base: u64) -> Abducibles
+pub fn abducible_lanes(file: &[u8], contents: Contents, base: u64) -> Abducibles
     requires { ⌜ (fileAnswer (readFile (now file)) ≡ FileRead.Accepted contents) × (base < 4294967296) ⌝ }
     ensures { λ r. ⌜ AbducibleLanes (programIn (now (file .entry))) base (r .trues) (r .falses) ⌝ }
 {

@@ -1,13 +1,22 @@
 // Sixty-four scenarios at once: bit l of word o says whether o is in the set of lane l.
 ghost use mathlib.Core.Path.{_≡_};
-ghost use Prim.Native.Nat.{_≤_};
+ghost use Prim.Native.Nat.{_<_, _≤_};
 ghost use Rattle.papers.specs.Field.{numbers};
+ghost use Rattle.lanes.specs.Lanes.{inLane};
 ghost use Rattle.lanes.specs.Words.{wordOf, Below, Literals, BodyWord, ComplementWords, Laned};
-use fields::numbered::literal_at;
 use literals::Literal;
+use numbered::literal_at;
+
+// Whether lane l of a word is set.
+pub fn in_lane(word: u64, l: usize) -> bool
+    requires { ⌜ l < 64 ⌝ }
+    ensures { λ r. ⌜ r ≡ inLane l word ⌝ }
+{
+    (word >> l) % 2 == 1
+}
 
 // The lanes in which a literal holds.
-pub(crate) fn word_of(l: Literal, set: &[u64; 513], negated: &[u64; 513]) -> u64
+pub fn word_of(l: Literal, set: &[u64; 513], negated: &[u64; 513]) -> u64
     requires { ⌜ Below 513 (l .0) ⌝ }
     ensures { λ r. ⌜ r ≡ wordOf (l .0) (now (set .entry)) (now (negated .entry)) ⌝ }
 {
@@ -21,7 +30,7 @@ pub(crate) fn word_of(l: Literal, set: &[u64; 513], negated: &[u64; 513]) -> u64
 }
 
 // The lanes in which each literal of a body holds.
-pub(crate) fn body_word(body: &[u8], set: &[u64; 513], negated: &[u64; 513]) -> u64
+pub fn body_word(body: &[u8], set: &[u64; 513], negated: &[u64; 513]) -> u64
     requires { ⌜ Literals 513 (numbers (now body)) ⌝ }
     ensures { λ r. ⌜ BodyWord (numbers (now (body .entry))) (now (set .entry)) (now (negated .entry)) r ⌝ }
 {
@@ -37,7 +46,7 @@ pub(crate) fn body_word(body: &[u8], set: &[u64; 513], negated: &[u64; 513]) -> 
 }
 
 // The first words of a row with their other lanes; past them none.
-pub(crate) fn complement_words(words: &[u64; 513], count: usize) -> [u64; 513]
+pub fn complement_words(words: &[u64; 513], count: usize) -> [u64; 513]
     requires { ⌜ count ≤ 513 ⌝ }
     ensures { λ r. ⌜ ComplementWords count (now (words .entry)) r ⌝ }
 {
@@ -57,7 +66,7 @@ fn known(words: [u64; 513])
 {}
 
 // The same of one that is lent.
-pub(crate) fn lent_known(words: &[u64; 513])
+pub fn lent_known(words: &[u64; 513])
     ensures { λ r. ⌜ Laned (now (words .entry)) ⌝ }
 {
     known(*words)

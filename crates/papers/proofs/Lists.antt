@@ -26,6 +26,10 @@ pub all-each : {A : Type 0} {P Q : A → Type 0} → ((a : A) → P a → Q a) �
 all-each h none = none
 all-each h (each {a} {more} p rest) = each (h a p) (all-each h rest)
 
+-- The first and the others.
+pub first-of : {A : Type 0} {P : A → Type 0} {a : A} {more : List A} → All P (a ∷ more) → P a × All P more
+first-of (each p rest) = (p, rest)
+
 -- What stands after a part that stands at a place.
 pub drop-after : {A : Type 0} (place size : ℕ) (list part rest : List A) → drop place list ≡ part ++ rest → length part ≡ size
     → drop (place + size) list ≡ rest

@@ -7,9 +7,9 @@ ghost use Rattle.papers.specs.Reading.{readEdition, readAtoms, readAbducibles, 
 ghost use Rattle.papers.specs.Answers.{numberAnswer, countAnswer, runAnswer, fileAnswer};
 use fields::content::abducibles_fault;
 use fields::content::body_fault;
-use fields::field::number_at;
 use fields::field::read_field;
 use fields::field::tag_at;
+use numbered::number_at;
 use papers::Contents;
 use papers::FieldRead;
 use papers::Fields;

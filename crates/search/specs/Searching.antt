@@ -14,7 +14,7 @@ use Rattle.papers.specs.Reading.{programIn, Papers}
 use Rattle.papers.specs.Told.{Told, tells, refusedBy, refusedAt, bareTold, refusalTold}
 use Rattle.dual.specs.Answers.{dualOf, filled}
 use Rattle.model.specs.Model.{rounds, explains}
-use Rattle.lanes.specs.VerdictLanes.{Prepared}
+use Rattle.settling.specs.VerdictLanes.{Prepared}
 use Rattle.search.specs.declared.Report.{Report as CallReport}
 use Rattle.search.specs.declared.Continued.{Continued}
 use Rattle.search.specs.declared.Continued.the-variants.{Reported, ShortDual, SpoiltSearch, Refused}

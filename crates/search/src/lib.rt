@@ -9,7 +9,7 @@ ghost use Rattle.papers.specs.Answers.{papersAnswer};
 ghost use Rattle.steps.specs.Continuing.{fresh};
 ghost use Rattle.search.specs.Searching.{continuedTold, continueTold, dualContinued, listContinued, Answers};
 use dual::DualWritten;
-use lanes::digits::scenario_count;
+use model::scenario_count;
 use papers::Contents;
 use papers::PapersRead;
 use papers::Refusal;
@@ -62,7 +62,7 @@ fn continue_accepted(
     let total = scenario_count(contents.abducibles);
     let spoilt = is_spoilt(list, from.position, from.found, total);
     let places = folds::fold_places(file, contents);
-    let written = dual::write_accepted(file, contents, &places, dual, !spoilt);
+    let written = dual_writer::write_accepted(file, contents, &places, dual, !spoilt);
     let DualWritten::Length(_) = written else {
         return Continued::ShortDual;
     };

@@ -2,9 +2,9 @@
 ghost use mathlib.Core.Path.{_≡_};
 ghost use Prim.Native.Nat.{_≤_, _<_, _^_};
 ghost use lib.ListN.{length};
-ghost use Rattle.lanes.specs.Lanes.{inLane};
 ghost use Rattle.steps.specs.Stepping.{Decided, LaneReady, LaneTried, LanesReady, LanesTried};
 use crate::parts::contains_one;
+use lanes::words::in_lane;
 
 // What a step does.
 pub enum Move {
@@ -31,14 +31,6 @@ fn decide(k: usize, total: u32, list: &[u32], position: u32, found: usize, expla
         return Move::Writes;
     }
     Move::Stands
-}
-
-// Whether lane l of a word is set.
-fn in_lane(word: u64, l: usize) -> bool
-    requires { ⌜ l < 64 ⌝ }
-    ensures { λ r. ⌜ r ≡ inLane l word ⌝ }
-{
-    (word >> l) % 2 == 1
 }
 
 // How far a call has come: its record, and what it has counted.

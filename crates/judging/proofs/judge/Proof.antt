@@ -23,8 +23,8 @@ use Rattle.papers.proofs.ToldLaws.{papers-told}
 use Rattle.dual.specs.Answers.{dualOf, filled}
 use Rattle.dual.proofs.BothPapers.{papersIn, both-read, both-asked, few-abducibles, few-literals, scenarios-are}
 use Rattle.dual.proofs.BothPapers.{other-told, dual-fits, dual-short, dual-stays, dual-kept, dual-filled}
-use Rattle.lanes.specs.FalseWords.{DualStarts}
-use Rattle.lanes.proofs.DroppedLaws.{filled-starts}
+use Rattle.closing.specs.FalseWords.{DualStarts}
+use Rattle.closing.proofs.DroppedLaws.{filled-starts}
 use Rattle.judging.specs.Judging.{scenarioCount}
 use Rattle.judging.proofs.JudgingLaws.{judged-refused, judged-short, judged-small, judged-past, judged-done}
 use Rattle.judging.proofs.judge.Statement.{statement}

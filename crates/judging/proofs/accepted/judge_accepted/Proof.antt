@@ -8,8 +8,8 @@ use denote.Ref.{now}
 use Rattle.papers.specs.Field.{numbers}
 use Rattle.papers.specs.Reading.{programIn}
 use Rattle.papers.proofs.FileFacts.{atoms-are, few-atoms}
-use Rattle.lanes.specs.VerdictLanes.{ExplainedWord}
-use Rattle.lanes.proofs.VerdictLaws.{query-listed, verdict-lanes}
+use Rattle.settling.specs.VerdictLanes.{ExplainedWord}
+use Rattle.settling.proofs.VerdictLaws.{query-listed, verdict-lanes}
 use Rattle.judging.proofs.JudgingLaws.{first-verdict, first-filled}
 use Rattle.judging.proofs.accepted.judge_accepted.Statement.{statement}
 use Rattle.judging.proofs.accepted.judge_accepted.Tie as tie

@@ -7,13 +7,15 @@ use native.Mathlib.Omega.{arith}
 use denote.Ref.{now}
 use lib.ListN.{length, getD, length-set, length-replicate}
 use Rattle.papers.proofs.Lists.{set-more}
-use Rattle.lanes.specs.Lanes.{backingWord}
+use Rattle.lanes.specs.Lanes.{backingWord, NoneBeyond}
+use Rattle.lanes.proofs.LaneLaws.{none-zeros, none-set}
 use Rattle.lanes.proofs.backing.backing_words.Statement.{statement}
 use Rattle.lanes.proofs.backing.backing_words.Tie as tie
 
 abbrev Inv-loop : tie.InvT-loop
 Inv-loop trues falses atoms count words₀ i₀ words i =
-    (i ≤ count) × ((length words ≡ 513) × ((j : ℕ) → j < i → getD words j 0 ≡ backingWord atoms trues falses j))
+    (i ≤ count)
+    × ((length words ≡ 513) × (((j : ℕ) → j < i → getD words j 0 ≡ backingWord atoms trues falses j) × NoneBeyond i words))
 
 abbrev μ-loop : tie.MeasureT-loop
 μ-loop trues falses atoms count words₀ i₀ words i = count - i
@@ -26,7 +28,7 @@ judged-requires : tie.Need-judged-requires Inv-loop μ-loop
 judged-requires c κs = search needs
 
 loop-holds : tie.Need-loop-holds Inv-loop μ-loop
-loop-holds c = (omega arith, (length-replicate {A = ℕ} 513 0, λ j h. absurd (omega arith)))
+loop-holds c = (omega arith, (length-replicate {A = ℕ} 513 0, ((λ j h. absurd (omega arith)), none-zeros)))
 
 backing-word-requires : tie.Need-backing-word-requires Inv-loop μ-loop
 backing-word-requires c κs = (omega (arith, few (c .before .before)), c .before .before .before .pre)
@@ -52,12 +54,18 @@ loop-again c =
       omega arith,
       (
         simp length-set (l .inv .1 .0),
-        set-more (l .words) (l .i) (new .result) (backingWord (a .atoms) (now (a .trues)) (now (a .falses))) within (new .ensures) (l .inv .1 .1),
+        (
+          set-more (l .words) (l .i) (new .result) (backingWord (a .atoms) (now (a .trues)) (now (a .falses))) within (new .ensures) (l .inv .1 .1 .0),
+          none-set (l .i) (new .result) (l .words) (l .inv .1 .1 .1),
+        ),
       ),
     )
 
 returns : tie.Need-returns Inv-loop μ-loop
-returns c = let e = c .before .before .judged .ensures in record { at = λ j h. c .before .loop .inv .1 .1 j (omega arith) }
+returns c =
+    let l = c .before .loop in
+    let e = c .before .before .judged .ensures in
+    record { at = λ j h. l .inv .1 .1 .0 j (omega arith); beyond = record { at = λ j h. l .inv .1 .1 .1 .at j (omega arith) } }
 
 pub backing-words-spec : {M : Type 1} → statement M
 backing-words-spec =

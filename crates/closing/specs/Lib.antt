@@ -1,0 +1,3 @@
+-- Sets of 64 lanes closed: T under the rules of a file, F by the bytes of a dual.
+pub mod Closing
+pub mod FalseWords

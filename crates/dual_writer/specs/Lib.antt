@@ -1,0 +1,2 @@
+-- The folds by their heads, as the writer of a dual walks them.
+pub mod Chains

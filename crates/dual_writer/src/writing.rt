@@ -1,0 +1,111 @@
+// One field of the dual, written into the part of the buffer that it is lent.
+ghost use mathlib.Core.Path.{_≡_};
+ghost use mathlib.Core.List.{[], _∷_, map};
+ghost use Prim.Native.Nat.{_+_, _*_, _/_, _%_, _<_, _≤_};
+ghost use lib.ListN.{length, set};
+ghost use Rattle.literals.specs.Numbering.{defaultConjugate};
+ghost use Rattle.papers.specs.Field.{numbers};
+ghost use Rattle.papers.specs.Encoding.{encodeNumbers, encodeField};
+ghost use Rattle.dual.specs.Answers.{filled};
+ghost use Rattle.dual_writer.specs.Chains.{Chain, foldsAt};
+use crate::chains::next_fold;
+use literals::Fold;
+use literals::Objective;
+use numbered::literal_at;
+
+// A two-byte number at a place, high byte first.
+fn put_number(buffer: &mut [u8], at: usize, value: usize)
+    requires { ⌜ (at + 1 < length (now buffer)) × (value < 65536) ⌝ }
+    ensures { λ _. ⌜ now (buffer .exit) ≡ set (set (now (buffer .entry)) at (value / 256)) (at + 1) (value % 256) ⌝ }
+{
+    buffer[at] = (value / 256) as u8;
+    buffer[at + 1] = (value % 256) as u8;
+}
+
+// A field's tag, its length and its first number.
+fn put_heading(buffer: &mut [u8], tag: u8, size: usize, number: usize)
+    requires { ⌜ (4 < length (now buffer)) × ((size < 65536) × (number < 65536)) ⌝ }
+    ensures { λ _. ⌜ now (buffer .exit) ≡ filled (tag ∷ size / 256 ∷ size % 256 ∷ number / 256 ∷ number % 256 ∷ []) (now (buffer .entry)) ⌝ }
+{
+    buffer[0] = tag;
+    put_number(buffer, 1, size);
+    put_number(buffer, 3, number);
+}
+
+// 09: the fold number, and the default conjugate of each body literal.
+pub(crate) fn write_fold(buffer: &mut [u8], fold: Fold, body: &[u8]) -> usize
+    requires { ⌜
+        (5 + length (now body) ≤ length (now buffer))
+        × ((fold .0 < 65536)
+        × ((length (now body) ≤ 32)
+        × (length (now body) ≡ 2 * length (numbers (now body)))))
+        ⌝ }
+    ensures { λ r. ⌜
+        (r ≡ 5 + length (now (body .entry)))
+        × (now (buffer .exit) ≡ filled (encodeField 0x09 (encodeNumbers (fold .0 ∷ map defaultConjugate (numbers (now (body .entry)))))) (now (buffer .entry)))
+        ⌝ }
+{
+    let size = body.len();
+    put_heading(buffer, 0x09, 2 + size, fold.0);
+    let count = size / 2;
+    let mut i: usize = 0;
+    while i < count {
+        let conjugate = literals::default_conjugate(literal_at(body, 2 * i));
+        put_number(buffer, 5 + 2 * i, conjugate.0);
+        i += 1;
+    }
+    5 + size
+}
+
+// How many folds a chain has.
+fn fold_count(next: &[usize; 1280], start: Fold) -> usize
+    requires { ⌜ Chain (now next) (start .0) (foldsAt (now next) (start .0)) ⌝ }
+    ensures { λ r. ⌜ (r ≡ length (foldsAt (now (next .entry)) (start .0))) × (r ≤ 1280) ⌝ }
+{
+    let mut count: usize = 0;
+    let mut fold = start;
+    while fold.0 < 1280 {
+        count += 1;
+        fold = next_fold(next, fold);
+    }
+    count
+}
+
+// 08: the objective literal, and the fold numbers of its rules.
+pub(crate) fn write_literal(
+    buffer: &mut [u8],
+    next: &[usize; 1280],
+    start: Fold,
+    o: Objective,
+) -> usize
+    requires { ⌜
+        Chain (now next) (start .0) (foldsAt (now next) (start .0))
+        × ((5 + 2 * length (foldsAt (now next) (start .0)) ≤ length (now buffer))
+        × (o .0 < 65536))
+        ⌝ }
+    ensures { λ r. ⌜
+        (r ≡ 5 + 2 * length (foldsAt (now (next .entry)) (start .0)))
+        × (now (buffer .exit) ≡ filled (encodeField 0x08 (encodeNumbers (o .0 ∷ foldsAt (now (next .entry)) (start .0)))) (now (buffer .entry)))
+        ⌝ }
+{
+    let count = fold_count(next, start);
+    put_heading(buffer, 0x08, 2 + 2 * count, o.0);
+    let mut at: usize = 5;
+    let mut fold = start;
+    while fold.0 < 1280 {
+        put_number(buffer, at, fold.0);
+        at += 2;
+        fold = next_fold(next, fold);
+    }
+    at
+}
+
+// 7F.
+pub(crate) fn write_end(buffer: &mut [u8])
+    requires { ⌜ 2 < length (now buffer) ⌝ }
+    ensures { λ _. ⌜ now (buffer .exit) ≡ filled (encodeField 0x7F []) (now (buffer .entry)) ⌝ }
+{
+    buffer[0] = 0x7F;
+    buffer[1] = 0;
+    buffer[2] = 0;
+}

@@ -1,0 +1,200 @@
+-- Rounds in sixty-four scenarios at once, from J0 to the models.
+-- Assumes nothing.
+use mathlib.Core.Path.{_≡_, refl, sym, ap, subst, _∙_}
+use mathlib.Core.Bool.{Bool, true, false, not, cond, true≢false}
+use mathlib.Core.List.{List}
+use Prim.Native.Nat.{ℕ, suc, _+_, _*_, _^_, _≤_, _<_, min}
+use native.Mathlib.Decide.{decLt}
+use native.Mathlib.Omega.{arith}
+use borrow.Author.Tests.{lt-ltb, le-ltb, ltb-true, ltb-false, eqb-true, not-false}
+use lib.Bits.{bitOr, or-lt}
+use lib.Dec.{eqb, ltb}
+use lib.ListN.{getD, replicate}
+use Rattle.literals.specs.Numbering.{judged}
+use Rattle.papers.specs.Program.{Program}
+use Rattle.papers.proofs.Lists.{getD-zeros}
+use Rattle.model.specs.Tests.{_or_}
+use Rattle.model.specs.Sets.{Set, has, empty, complement}
+use Rattle.model.specs.Iteration.{iterate}
+use Rattle.model.specs.Model.{Interpretation, trueSet, falseSet, successor, start, interpretationAt, rounds}
+use Rattle.lanes.specs.Lanes.{inLane, lane, NoneBeyond, Changed, AbducibleLanes}
+use Rattle.lanes.specs.Words.{ComplementWords}
+use Rattle.settling.specs.RoundLanes.{NextRound, MarkedLanes, SettledLanes, HeldLanes}
+use Rattle.model.proofs.TestLaws.{is-false}
+use Rattle.model.proofs.SetLaws.{length-empty, empty-out, set-ext}
+use Rattle.lanes.proofs.LaneLaws.{lane-or, lane-none, words-same, sized, has-lane, complement-lane}
+use Rattle.model.proofs.Rounds.{interpretation-eq, next-is, rounds-le, model-possible, model-first, model-on}
+
+module _ (p : Program) (s j : ℕ) where
+  -- j + 1 is the round after j.
+  same-round : interpretationAt p s (suc j) ≡ interpretationAt p s (j + 1)
+  same-round = let e : suc j ≡ j + 1 = omega arith in ap (interpretationAt p s) e
+
+  next : interpretationAt p s (j + 1) ≡ successor p s (interpretationAt p s j)
+  next = sym same-round ∙ next-is p s j
+
+module _ (p : Program) (base : ℕ) where
+  -- In each lane the interpretation of round j.
+  pub record LanesAt (j : ℕ) (t f : List ℕ) : Type 0 where
+    pub true-in : (l : ℕ) → l < 64 → lane (judged (p .atoms)) l t ≡ interpretationAt p (base + l) j .trues
+    pub false-in : (l : ℕ) → l < 64 → lane (judged (p .atoms)) l f ≡ interpretationAt p (base + l) j .falses
+
+  -- J0: no word has a lane set.
+  pub lanes-start : LanesAt 0 (replicate 513 0) (replicate 513 0)
+  unfolding interpretationAt iterate start
+  lanes-start = record { true-in = λ l h. none l; false-in = λ l h. none l } where
+    none : (l : ℕ) → lane (judged (p .atoms)) l (replicate 513 0) ≡ empty (judged (p .atoms))
+    none l =
+        set-ext (judged (p .atoms)) (lane (judged (p .atoms)) l (replicate 513 0)) (empty (judged (p .atoms)))
+        (sized (judged (p .atoms)) l (replicate 513 0)) (length-empty (judged (p .atoms)))
+        (λ o h.
+        has-lane (judged (p .atoms)) l o (replicate 513 0) h
+        ∙ ap (inLane l) (getD-zeros 513 o)
+        ∙ lane-none l
+        ∙ sym (is-false (has (empty (judged (p .atoms))) o) (empty-out (judged (p .atoms)) o)))
+
+  pub lanes-next : (j : ℕ) (trues falses t f t′ f′ : List ℕ) → AbducibleLanes p base trues falses → LanesAt j t f
+      → NextRound p trues falses t f t′ f′ → LanesAt (j + 1) t′ f′
+  unfolding successor
+  lanes-next j trues falses t f t′ f′ a h n = record {
+    true-in = λ l b.
+        n .true-in base l b a
+        ∙ ap (trueSet p (base + l)) (h .false-in l b)
+        ∙ ap (λ (i : Interpretation). i .trues) (sym (next p (base + l) j));
+    false-in = λ l b.
+        n .false-in base l b a
+        ∙ ap (falseSet p (base + l)) (h .true-in l b)
+        ∙ ap (λ (i : Interpretation). i .falses) (sym (next p (base + l) j));
+  }
+
+  -- A round changes a lane exactly if it comes before the lane's round count.
+  pub changed-lane : (j : ℕ) (t f t′ f′ : List ℕ) (w v l : ℕ) → l < 64 → LanesAt j t f → LanesAt (j + 1) t′ f′
+      → Changed (judged (p .atoms)) t t′ w → Changed (judged (p .atoms)) f f′ v → inLane l (bitOr w v) ≡ ltb j (rounds p (base + l))
+  unfolding _or_
+  changed-lane j t f t′ f′ w v l b h h′ c d = lane-or l w v ∙ go (inLane l w) (inLane l v) refl refl where
+    before : Interpretation
+    before = interpretationAt p (base + l) j
+
+    after : Interpretation
+    after = interpretationAt p (base + l) (j + 1)
+
+    -- Where the round changed something, it is not past the round count.
+    early : (after ≡ before → ⊥) → true ≡ ltb j (rounds p (base + l))
+    early n = elim (decLt j (rounds p (base + l))) [
+      | yes k ↦ sym (lt-ltb j (rounds p (base + l)) k)
+      | no k ↦ absurd (n (model-on p (base + l) (j + 1) (omega arith) ∙ sym (model-on p (base + l) j (omega arith))))
+    ]
+
+    late : after ≡ before → false ≡ ltb j (rounds p (base + l))
+    late e = elim (decLt j (rounds p (base + l))) [
+      | yes k ↦ absurd (model-first p (base + l) j k (same-round p (base + l) j ∙ e))
+      | no k ↦ sym (le-ltb j (rounds p (base + l)) (omega arith))
+    ]
+
+    go : (x y : Bool) → inLane l w ≡ x → inLane l v ≡ y → (x or y) ≡ ltb j (rounds p (base + l))
+    go true y e e′ = early (λ q. c .other l e (h .true-in l b ∙ ap (λ (i : Interpretation). i .trues) (sym q) ∙ sym (h′ .true-in l b)))
+    go false true e e′ = early (λ q. d .other l e′ (h .false-in l b ∙ ap (λ (i : Interpretation). i .falses) (sym q) ∙ sym (h′ .false-in l b)))
+    go false false e e′ =
+        late
+        (interpretation-eq after before (sym (h′ .true-in l b) ∙ sym (c .same l e) ∙ h .true-in l b)
+        (sym (h′ .false-in l b) ∙ sym (d .same l e′) ∙ h .false-in l b))
+
+  -- Rounds by lane after round j: those of the definition, or j where they are more.
+  pub record CountedTo (j : ℕ) (counts : List ℕ) : Type 0 where
+    pub at : (l : ℕ) → l < 64 → getD counts l 0 ≡ min j (rounds p (base + l))
+
+  pub counted-none : CountedTo 0 (replicate 64 0)
+  counted-none = record { at = λ l h. getD-zeros 64 l ∙ omega arith }
+
+  pub counted-next : (j w : ℕ) (counts counts′ : List ℕ) → ((l : ℕ) → l < 64 → inLane l w ≡ ltb j (rounds p (base + l)))
+      → CountedTo j counts → MarkedLanes w (j + 1) counts counts′ → CountedTo (j + 1) counts′
+  counted-next j w counts counts′ c h m = record { at = λ l b. m .at l b ∙ rw (c l b) (go l b (ltb j (rounds p (base + l))) refl) } where
+    go : (l : ℕ) → l < 64 → (x : Bool) → ltb j (rounds p (base + l)) ≡ x → cond x (j + 1) (getD counts l 0) ≡ min (j + 1) (rounds p (base + l))
+    go l b true e = let k = ltb-true j (rounds p (base + l)) e in omega arith
+    go l b false e = let k = ltb-false j (rounds p (base + l)) e in let g = h .at l b in omega arith
+
+  -- A round that changed a lane is one of the first 2N.
+  pub rounds-left : (j w : ℕ) → w < 2 ^ 64 → ((l : ℕ) → l < 64 → inLane l w ≡ ltb j (rounds p (base + l))) → (w ≡ 0 → ⊥)
+      → j < 2 * judged (p .atoms)
+  rounds-left j w k c n = elim (decLt j (2 * judged (p .atoms))) [
+    | yes h ↦ h
+    | no h ↦ absurd (n (words-same w 0 k (omega arith) (λ l b.
+        let r = rounds-le p (base + l) in
+        c l b ∙ le-ltb j (rounds p (base + l)) (omega arith) ∙ sym (lane-none l))))
+  ]
+
+  -- Where a round changed no lane, the models are reached.
+  pub settled : (j w : ℕ) (t f counts : List ℕ) → ((l : ℕ) → l < 64 → inLane l w ≡ ltb j (rounds p (base + l))) → w ≡ 0
+      → LanesAt (j + 1) t f → CountedTo (j + 1) counts → SettledLanes p base t f counts
+  settled j w t f counts c z h k = record {
+    true-in = λ l b. h .true-in l b ∙ ap (λ (i : Interpretation). i .trues) (model-on p (base + l) (j + 1) (past l b));
+    false-in = λ l b. h .false-in l b ∙ ap (λ (i : Interpretation). i .falses) (model-on p (base + l) (j + 1) (past l b));
+    counted = λ l b. let q = past l b in k .at l b ∙ omega arith;
+  }
+    where
+      still : (l : ℕ) → l < 64 → rounds p (base + l) ≤ j
+      still l b = ltb-false j (rounds p (base + l)) (sym (c l b) ∙ ap (inLane l) z ∙ lane-none l)
+
+      past : (l : ℕ) → l < 64 → rounds p (base + l) ≤ j + 1
+      past l b = let q = still l b in omega arith
+
+  -- P of the models is what F leaves.
+  pub held : {count : ℕ} {t possible f counts : List ℕ} → count ≡ judged (p .atoms) → SettledLanes p base t f counts → NoneBeyond (judged (p .atoms)) t
+      → NoneBeyond (judged (p .atoms)) f → ComplementWords count f possible → HeldLanes p base t possible f
+  held {t = t} {possible = possible} {f = f} e s x y c = record {
+    possible-in = λ l h.
+        complement-lane (judged (p .atoms)) l f possible h left
+        ∙ ap (λ (set : Set). complement (judged (p .atoms)) set) (s .false-in l h)
+        ∙ model-possible p (base + l);
+    true-beyond = x;
+    possible-beyond = left .beyond;
+    false-beyond = y;
+  }
+    where
+      left : ComplementWords (judged (p .atoms)) f possible
+      left = subst (λ (m : ℕ). ComplementWords m f possible) e c
+
+  -- What the loop over rounds knows: the interpretation of the last round, and whether it was still changing.
+  pub record Settling (j : ℕ) (going : Bool) (t f counts : List ℕ) : Type 0 where
+    pub lanes : LanesAt j t f
+    pub counted : CountedTo j counts
+    pub true-beyond : NoneBeyond (judged (p .atoms)) t
+    pub false-beyond : NoneBeyond (judged (p .atoms)) f
+    pub goes : going ≡ true → j ≤ 2 * judged (p .atoms)
+    pub rests : going ≡ false → SettledLanes p base t f counts
+
+  pub settling-start : Settling 0 true (replicate 513 0) (replicate 513 0) (replicate 64 0)
+  settling-start = record {
+    lanes = lanes-start;
+    counted = counted-none;
+    true-beyond = record { at = λ o h. getD-zeros 513 o };
+    false-beyond = record { at = λ o h. getD-zeros 513 o };
+    goes = λ e. omega arith;
+    rests = λ e. absurd (true≢false e);
+  }
+
+  pub settling-next : (j count w v : ℕ) (trues falses t f counts t′ f′ counts′ : List ℕ) → count ≡ judged (p .atoms) → AbducibleLanes p base trues falses
+      → Settling j true t f counts → NextRound p trues falses t f t′ f′ → Changed count t t′ w → Changed count f f′ v
+      → w < 2 ^ 64 → v < 2 ^ 64 → MarkedLanes (bitOr w v) (j + 1) counts counts′
+      → Settling (j + 1) (not (eqb (bitOr w v) 0)) t′ f′ counts′
+  settling-next j count w v trues falses t f counts t′ f′ counts′ e a s r c d k k′ m = record {
+    lanes = after;
+    counted = counted;
+    true-beyond = r .true-beyond base a;
+    false-beyond = r .false-beyond;
+    goes = λ g.
+        let few = rounds-left j (bitOr w v) (or-lt 64 w v k k′) told (λ z. absurd (true≢false (sym g ∙ ap (λ (x : ℕ). not (eqb x 0)) z))) in
+        omega arith;
+    rests = λ g. settled j (bitOr w v) t′ f′ counts′ told (eqb-true (bitOr w v) 0 (not-false (eqb (bitOr w v) 0) g)) after counted;
+  }
+    where
+      after : LanesAt (j + 1) t′ f′
+      after = lanes-next j trues falses t f t′ f′ a (s .lanes) r
+
+      told : (l : ℕ) → l < 64 → inLane l (bitOr w v) ≡ ltb j (rounds p (base + l))
+      told l b =
+          changed-lane j t f t′ f′ w v l b (s .lanes) after (subst (λ (m : ℕ). Changed m t t′ w) e c)
+          (subst (λ (m : ℕ). Changed m f f′ v) e d)
+
+      counted : CountedTo (j + 1) counts′
+      counted = counted-next j (bitOr w v) counts counts′ told (s .counted) m
