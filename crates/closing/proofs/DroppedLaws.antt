@@ -17,7 +17,7 @@ use Rattle.papers.specs.Valid.{Valid}
 use Rattle.papers.specs.Encoding.{encodeField}
 use Rattle.dual.specs.Table.{Field, dual}
 use Rattle.dual.specs.Encoding.{encodeFields, encodeDual}
-use Rattle.dual.specs.Answers.{dualOf, filled}
+use Rattle.dual.specs.Bytes.{dualOf, filled}
 use Rattle.model.specs.Tests.{_and_, _or_}
 use Rattle.model.specs.Sets.{Set, has}
 use Rattle.model.specs.Scenarios.{digitOf, falseAbducible}

@@ -20,7 +20,7 @@ use Rattle.papers.proofs.Lists.{drop-after}
 use Rattle.papers.proofs.RuleLaws.{all-at}
 use Rattle.dual.specs.Table.{foldsOf, foldField, dual}
 use Rattle.dual.specs.Encoding.{encodeFields}
-use Rattle.dual.specs.Answers.{dualOf}
+use Rattle.dual.specs.Bytes.{dualOf}
 use Rattle.dual.proofs.Folds.{FoldIn, folds-of-tell}
 use Rattle.model.specs.Tests.{_and_}
 use Rattle.model.specs.Falsity.{listedBy, someHolds, foldsHold}

@@ -12,7 +12,7 @@ use Rattle.papers.specs.Field.{numberIn, numbers, sizeOf, contentOf}
 use Rattle.papers.specs.Encoding.{encodeField}
 use Rattle.dual.specs.Table.{foldsOf, hasEntry, foldField, entriesFrom, dual}
 use Rattle.dual.specs.Encoding.{encodeFields}
-use Rattle.dual.specs.Answers.{dualOf}
+use Rattle.dual.specs.Bytes.{dualOf}
 use Rattle.model.specs.Tests.{_or_}
 use Rattle.model.specs.Sets.{Set, has}
 use Rattle.model.specs.Falsity.{someHolds, foldsHold, entryHolds}

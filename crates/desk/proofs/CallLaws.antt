@@ -9,7 +9,7 @@ use lib.ListN.{length, take, drop, take-append-drop}
 use Rattle.papers.specs.Outcome.{Outcome, accepted}
 use Rattle.papers.specs.Reading.{Papers}
 use Rattle.papers.specs.Told.{tells}
-use Rattle.dual.specs.Answers.{dualOf}
+use Rattle.dual.specs.Bytes.{dualOf}
 use Rattle.search.specs.declared.Continued.the-variants.{Reported}
 use Rattle.search.specs.declared.Report.{Report as CallReport}
 use Rattle.steps.specs.Scenarios.{Problem, scenarios, minimals, stop, sumBelow, roundsFrom}

@@ -16,7 +16,7 @@ use Rattle.papers.proofs.FoldLaws.{abducibles-content, abducibles-within}
 use Rattle.papers.proofs.Checks.{through}
 use Rattle.papers.proofs.Lists.{all-each}
 use Rattle.papers.proofs.Accepted.{accepted-valid}
-use Rattle.dual.specs.Answers.{dualOf}
+use Rattle.dual.specs.Bytes.{dualOf}
 use Rattle.dual.proofs.Lengths.{dual-length}
 use Rattle.dual.proofs.Bound.{dual-bound}
 use Rattle.model.proofs.Rounds.{rounds-le}

@@ -9,7 +9,7 @@ use borrow.Rule.Slice.PartMut.{putMid}
 use lib.Seq.{drop-cons, drop-drop, take-append-seam, drop-append-seam, drop-append-add, set-append-seam, length-take-le}
 use Rattle.papers.specs.Encoding.{encodeNumbers}
 use Rattle.papers.proofs.NumberLaws.{length-encoded}
-use Rattle.dual.specs.Answers.{filled}
+use Rattle.dual.specs.Bytes.{filled}
 
 -- One byte more.
 pub filled-set : (bytes buffer : List ℕ) (b : ℕ) → length bytes < length buffer → set (filled bytes buffer) (length bytes) b ≡ filled (bytes ++ b ∷ []) buffer

@@ -2,18 +2,21 @@
 -- Assumes nothing.
 use mathlib.Core.Path.{_≡_, refl}
 use mathlib.Core.Bool.{Bool, true, false, cond}
-use mathlib.Core.List.{List, [], _∷_, _++_}
+use mathlib.Core.List.{List, [], _∷_, _++_, map}
 use Prim.Native.Nat.{ℕ, zero, suc, _+_, _-_, _≤_, _<_}
 use native.Mathlib.Omega.{arith}
 use borrow.Author.Tests.{eqb-true, eq-eqb}
 use lib.Dec.{eqb}
-use lib.ListN.{length, getD}
+use lib.ListN.{length, getD, drop}
+use Rattle.literals.specs.Numbering.{defaultConjugate}
+use Rattle.literals.proofs.Laws.{default-twice}
 use Rattle.papers.specs.Program.{Rule, Program, allRules, noRule}
 use Rattle.papers.specs.Content.{isAmong}
 use Rattle.papers.specs.Valid.{All, Rising}
 use Rattle.papers.specs.Valid.{All.none as nothing, All.each as each, Rising.none as flat, Rising.next as above}
 use Rattle.papers.proofs.Lists.{all-each}
-use Rattle.dual.specs.Table.{foldsFrom, foldsOf, isEmpty, isFact}
+use Rattle.dual.specs.Table.{foldsFrom, foldsOf, isEmpty, isFact, foldField}
+use Rattle.dual.specs.Encoding.{numbersOf}
 use Rattle.dual.specs.Length.{ruleLength, rulesLength}
 
 -- ---- the folds of a head
@@ -189,3 +192,14 @@ rules-append (r ∷ more) b o = rw (rules-append more b o) (go (eqb (r .head) o)
   go : (t : Bool) (n x y : ℕ) → cond t (n + (x + y)) (x + y) ≡ cond t (n + x) x + y
   go true n x y = omega arith
   go false n x y = refl
+
+-- ---- a fold's field
+
+conjugates-undone : (l : List ℕ) → map defaultConjugate (map defaultConjugate l) ≡ l
+conjugates-undone [] = refl
+conjugates-undone (x ∷ more) = let h = default-twice x in let ih = conjugates-undone more in cc
+
+-- It tells its rule's body: the default conjugates of what it lists, in order.
+pub fold-tells-body : (rules : List Rule) (k : ℕ) → map defaultConjugate (drop 1 (numbersOf (foldField rules k))) ≡ (getD rules k noRule) .body
+unfolding foldField
+fold-tells-body rules k = conjugates-undone ((getD rules k noRule) .body)

@@ -6,6 +6,3 @@ pub mod Bound
 pub mod Folds
 -- A buffer that is filled from its start.
 pub mod FilledLaws
--- What is told of an answer fixes it.
-pub mod ToldLaws
-pub mod BothPapers

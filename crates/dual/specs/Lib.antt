@@ -1,5 +1,5 @@
--- Document 01, "The dual table": its fields, its bytes, reading them back, and what the writer answers.
+-- Document 01, "The dual table": its fields, its bytes, reading them back, and its length.
 pub mod Table
 pub mod Encoding
 pub mod Length
-pub mod Answers
+pub mod Bytes

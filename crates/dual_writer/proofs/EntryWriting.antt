@@ -15,7 +15,7 @@ use Rattle.dual.specs.Table.{literal, foldsOf, foldField, entry}
 use Rattle.dual.specs.Table as table
 use Rattle.dual.specs.Encoding.{encodeFields}
 use Rattle.dual_writer.specs.Chains.{Chain, foldsAt, ChainsOf}
-use Rattle.dual.specs.Answers.{filled}
+use Rattle.dual.specs.Bytes.{filled}
 use Rattle.dual.proofs.AllEntries.{foldBytes, entry-is}
 use Rattle.dual.proofs.Folds.{FoldIn, folds-of-tell}
 use Rattle.dual.proofs.Lengths.{length-one}

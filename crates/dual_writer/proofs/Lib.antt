@@ -4,3 +4,7 @@ mod WritingLaws
 mod EntryLaws
 mod EntryWriting
 mod TableWriting
+-- What is told of an answer fixes it.
+pub mod ToldLaws
+-- What a caller knows that has read both papers and had the dual written.
+pub mod BothPapers

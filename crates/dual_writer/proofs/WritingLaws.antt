@@ -10,7 +10,7 @@ use Rattle.papers.specs.Field.{number, numbers}
 use Rattle.papers.specs.Encoding.{encodeNumbers, encodeField}
 use Rattle.papers.proofs.NumberLaws.{length-encoded}
 use Rattle.papers.proofs.Walking.{read-number, no-number}
-use Rattle.dual.specs.Answers.{filled}
+use Rattle.dual.specs.Bytes.{filled}
 use Rattle.dual_writer.specs.Chains.{Chain}
 use Rattle.dual_writer.proofs.ChainLaws.{Following, following-starts, following-done, following-link, following-room, following-next}
 use Rattle.dual.proofs.FilledLaws.{filled-again, Numbered, numbered-none, numbered-more}

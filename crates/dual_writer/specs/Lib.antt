@@ -1,2 +1,3 @@
--- The folds by their heads, as the writer of a dual walks them.
+-- The folds by their heads, as the writer of a dual walks them; and what it answers.
 pub mod Chains
+pub mod Answers

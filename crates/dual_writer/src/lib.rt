@@ -8,14 +8,21 @@ ghost use mathlib.Core.Bool.{cond};
 ghost use lib.ListN.{length};
 ghost use Rattle.papers.specs.Reading.{readFile};
 ghost use Rattle.papers.specs.Places.{Walked};
-ghost use Rattle.dual.specs.Answers.{writtenTold, dualTold, dualAfter};
+ghost use Rattle.dual_writer.specs.Answers.{writtenTold, dualTold, dualAfter};
 use chains::fold_chains;
-use dual::DualWritten;
 use entries::dual_length;
 use entries::write_entries;
 use papers::Contents;
 use papers::FileRead;
+use papers::Refusal;
 use writing::write_end;
+
+// What writing answers: the dual's length, or document 01's refusal 11, or one of the file's.
+pub enum DualWritten {
+    Length(usize),
+    Short,
+    Refused(Refusal),
+}
 
 // The dual of a file that was read already, into a buffer that stays as it is where `allowed` is false.
 pub fn write_accepted(

@@ -6,7 +6,7 @@ ghost use lib.ListN.{length, set};
 ghost use Rattle.literals.specs.Numbering.{defaultConjugate};
 ghost use Rattle.papers.specs.Field.{numbers};
 ghost use Rattle.papers.specs.Encoding.{encodeNumbers, encodeField};
-ghost use Rattle.dual.specs.Answers.{filled};
+ghost use Rattle.dual.specs.Bytes.{filled};
 ghost use Rattle.dual_writer.specs.Chains.{Chain, foldsAt};
 use crate::chains::next_fold;
 use literals::Fold;

@@ -12,7 +12,7 @@ use Rattle.papers.specs.declared.Refusal.{Refusal}
 use Rattle.papers.specs.Program.{Program, Query}
 use Rattle.papers.specs.Outcome.{Outcome, accepted, refused}
 use Rattle.papers.specs.Reading.{Papers}
-use Rattle.dual.specs.Answers.{dualOf, filled}
+use Rattle.dual.specs.Bytes.{dualOf, filled}
 use Rattle.model.specs.Model.{rounds, valueBytes, modelBytes, explains}
 use Rattle.lanes.specs.Lanes.{lane}
 use Rattle.settling.specs.RoundLanes.{SettledLanes}

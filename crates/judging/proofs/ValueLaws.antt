@@ -10,7 +10,7 @@ use lib.ListN.{length, getD, drop, set, length-set, length-append, length-drop, 
 use lib.Seq.{ext-getD, getD-append-add, getD-drop, getD-set-same, getD-set-other}
 use Rattle.literals.specs.Numbering.{judged}
 use Rattle.papers.specs.Program.{Program}
-use Rattle.dual.specs.Answers.{filled}
+use Rattle.dual.specs.Bytes.{filled}
 use Rattle.model.specs.Model.{model, valueByte, valueBytes, modelBytes}
 use Rattle.lanes.specs.Lanes.{inLane, lane}
 use Rattle.settling.specs.RoundLanes.{SettledLanes}

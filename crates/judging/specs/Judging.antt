@@ -11,7 +11,7 @@ use Rattle.papers.specs.Program.{Program}
 use Rattle.papers.specs.Outcome.{Outcome, accepted, refused}
 use Rattle.papers.specs.Reading.{Papers}
 use Rattle.papers.specs.Told.{Told, tells, bareTold, refusalTold}
-use Rattle.dual.specs.Answers.{dualOf, filled}
+use Rattle.dual.specs.Bytes.{dualOf, filled}
 use Rattle.judging.specs.declared.Judged.{Judged}
 use Rattle.judging.specs.declared.Judged.the-variants as answer
 use Rattle.model.specs.Model.{rounds, modelBytes, explains}

@@ -5,7 +5,7 @@ ghost use lib.ListN.{length};
 ghost use Rattle.literals.specs.Numbering.{judged};
 ghost use Rattle.papers.specs.Field.{numbers};
 ghost use Rattle.papers.specs.Reading.{programIn};
-ghost use Rattle.dual.specs.Answers.{filled};
+ghost use Rattle.dual.specs.Bytes.{filled};
 ghost use Rattle.judging.specs.declared.Judged.{Judged};
 ghost use Rattle.model.specs.Model.{rounds, modelBytes, explains};
 ghost use Rattle.settling.specs.VerdictLanes.{Prepared};

@@ -7,7 +7,7 @@ ghost use lib.ListN.{length};
 ghost use Rattle.papers.specs.Reading.{readPapers};
 ghost use Rattle.judging.specs.Judging.{judgedTold, judgeTold, dualJudged, modelJudged};
 use accepted::judge_accepted;
-use dual::DualWritten;
+use dual_writer::DualWritten;
 use model::scenario_count;
 use papers::PapersRead;
 use papers::Refusal;

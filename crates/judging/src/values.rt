@@ -2,7 +2,7 @@
 ghost use mathlib.Core.Path.{_≡_};
 ghost use Prim.Native.Nat.{_≤_};
 ghost use lib.ListN.{length};
-ghost use Rattle.dual.specs.Answers.{filled};
+ghost use Rattle.dual.specs.Bytes.{filled};
 ghost use Rattle.model.specs.Model.{valueByte, valueBytes};
 ghost use Rattle.lanes.specs.Lanes.{lane};
 

@@ -12,8 +12,8 @@ use Rattle.papers.specs.Outcome.{Outcome, accepted, refused}
 use Rattle.papers.specs.Reading.{Papers}
 use Rattle.papers.specs.Told.{tells}
 use Rattle.papers.proofs.PapersAnswers.{BothTold}
-use Rattle.dual.specs.Answers.{dualOf, filled}
-use Rattle.dual.proofs.BothPapers.{papersIn, scenarios-are}
+use Rattle.dual.specs.Bytes.{dualOf, filled}
+use Rattle.dual_writer.proofs.BothPapers.{papersIn, scenarios-are}
 use Rattle.search.specs.declared.Report.{Report}
 use Rattle.search.specs.declared.Continued.the-variants.{Reported, ShortDual, SpoiltSearch, Refused}
 use Rattle.steps.specs.declared.Record.{Record}

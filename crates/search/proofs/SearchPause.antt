@@ -9,7 +9,7 @@ use Rattle.papers.specs.declared.Refusal.{Refusal}
 use Rattle.papers.specs.Outcome.{Outcome, accepted, refused}
 use Rattle.papers.specs.Reading.{Papers, readPapers}
 use Rattle.papers.specs.Told.{bareNumber, bareTold, refusalTold, numberTold}
-use Rattle.dual.specs.Answers.{dualOf, filled}
+use Rattle.dual.specs.Bytes.{dualOf, filled}
 use Rattle.model.proofs.Rounds.{rounds-le}
 use Rattle.literals.specs.Numbering.{judged}
 use Rattle.steps.specs.declared.Record.{Record}

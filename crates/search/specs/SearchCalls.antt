@@ -10,7 +10,7 @@ use Rattle.papers.specs.declared.Refusal.{Refusal}
 use Rattle.papers.specs.Outcome.{Outcome, accepted, refused}
 use Rattle.papers.specs.Reading.{Papers, readPapers}
 use Rattle.papers.specs.Told.{Told, tells, refusedBy, refusedAt, bareNumber, numberTold, refusalTold}
-use Rattle.dual.specs.Answers.{dualOf, filled}
+use Rattle.dual.specs.Bytes.{dualOf, filled}
 use Rattle.search.specs.declared.Report.{Report}
 use Rattle.steps.specs.declared.Record.{Record}
 use Rattle.steps.specs.Continuing.{fresh}

@@ -12,7 +12,7 @@ use Rattle.papers.specs.Field.{numbers}
 use Rattle.papers.specs.Outcome.{Outcome, accepted, refused}
 use Rattle.papers.specs.Reading.{programIn, Papers}
 use Rattle.papers.specs.Told.{Told, tells, refusedBy, refusedAt, bareTold, refusalTold}
-use Rattle.dual.specs.Answers.{dualOf, filled}
+use Rattle.dual.specs.Bytes.{dualOf, filled}
 use Rattle.model.specs.Model.{rounds, explains}
 use Rattle.settling.specs.VerdictLanes.{Prepared}
 use Rattle.search.specs.declared.Report.{Report as CallReport}

@@ -8,7 +8,7 @@ ghost use Rattle.papers.specs.Reading.{readPapers};
 ghost use Rattle.papers.specs.Answers.{papersAnswer};
 ghost use Rattle.steps.specs.Continuing.{fresh};
 ghost use Rattle.search.specs.Searching.{continuedTold, continueTold, dualContinued, listContinued, Answers};
-use dual::DualWritten;
+use dual_writer::DualWritten;
 use model::scenario_count;
 use papers::Contents;
 use papers::PapersRead;

@@ -20,9 +20,9 @@ use Rattle.papers.proofs.Answered.{papers-refused}
 use Rattle.papers.proofs.FileFacts.{told, program-valid, atoms-are}
 use Rattle.papers.proofs.PapersAnswers.{BothTold, both-told}
 use Rattle.papers.proofs.ToldLaws.{papers-told}
-use Rattle.dual.specs.Answers.{dualOf, filled}
-use Rattle.dual.proofs.BothPapers.{papersIn, both-read, both-asked, few-abducibles, few-literals, scenarios-are}
-use Rattle.dual.proofs.BothPapers.{other-told, dual-fits, dual-short, dual-stays, dual-kept, dual-filled}
+use Rattle.dual.specs.Bytes.{dualOf, filled}
+use Rattle.dual_writer.proofs.BothPapers.{papersIn, both-read, both-asked, few-abducibles, few-literals, scenarios-are}
+use Rattle.dual_writer.proofs.BothPapers.{other-told, dual-fits, dual-short, dual-stays, dual-kept, dual-filled}
 use Rattle.closing.specs.FalseWords.{DualStarts}
 use Rattle.closing.proofs.DroppedLaws.{filled-starts}
 use Rattle.judging.specs.Judging.{scenarioCount}

@@ -10,8 +10,8 @@ use Rattle.papers.specs.Outcome.{accepted}
 use Rattle.papers.specs.Reading.{Papers, readFile, readPapers, programIn}
 use Rattle.papers.proofs.FileFacts.{told, program-valid}
 use Rattle.papers.proofs.PapersAnswers.{BothTold, both-told}
-use Rattle.dual.proofs.BothPapers.{papersIn, both-read, both-asked, few-abducibles, few-literals, scenarios-are}
-use Rattle.dual.proofs.BothPapers.{other-told, dual-fits, dual-short, dual-stays, dual-kept, dual-filled}
+use Rattle.dual_writer.proofs.BothPapers.{papersIn, both-read, both-asked, few-abducibles, few-literals, scenarios-are}
+use Rattle.dual_writer.proofs.BothPapers.{other-told, dual-fits, dual-short, dual-stays, dual-kept, dual-filled}
 use Rattle.closing.specs.FalseWords.{DualStarts}
 use Rattle.closing.proofs.DroppedLaws.{filled-starts}
 use Rattle.steps.specs.Spoilt.{spoilt}

@@ -11,7 +11,7 @@ use denote.Enum.Declared.{tagOf}
 use lib.ListN.{length}
 use Rattle.papers.specs.Reading.{readPapers}
 use Rattle.papers.specs.Told.{Told}
-use Rattle.dual.specs.Answers.{dualOf}
+use Rattle.dual.specs.Bytes.{dualOf}
 use Rattle.search.specs.declared.Report.{Report}
 use Rattle.search.specs.Searching.{continuedTold, continueTold}
 use Rattle.search.proofs.Continued.{the-type}

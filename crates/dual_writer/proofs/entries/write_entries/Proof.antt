@@ -13,7 +13,7 @@ use Rattle.papers.specs.Program.{Program}
 use Rattle.papers.specs.Reading.{programIn}
 use Rattle.dual.specs.Table.{entryIfAny}
 use Rattle.dual.specs.Encoding.{encodeFields}
-use Rattle.dual.specs.Answers.{filled}
+use Rattle.dual.specs.Bytes.{filled}
 use Rattle.papers.proofs.FileFacts.{atoms-are, few-atoms}
 use Rattle.papers.proofs.Walking.{to-end}
 use Rattle.dual.proofs.FilledLaws.{put-end}

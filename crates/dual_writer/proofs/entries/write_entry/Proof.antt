@@ -16,7 +16,7 @@ use Rattle.papers.specs.Encoding.{encodeNumbers, encodeField}
 use Rattle.papers.proofs.FoldAnswers.{few-body}
 use Rattle.dual.specs.Table.{foldsOf}
 use Rattle.dual_writer.specs.Chains.{Chain, foldsAt}
-use Rattle.dual.specs.Answers.{filled}
+use Rattle.dual.specs.Bytes.{filled}
 use Rattle.dual.proofs.Folds.{FoldIn}
 use Rattle.dual.proofs.AllEntries.{foldBytes}
 use Rattle.dual_writer.proofs.EntryWriting.{oneFold, folds-there, Entered, entered-none, entered-done, entered-fold, entered-rises}

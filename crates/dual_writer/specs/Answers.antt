@@ -1,21 +1,16 @@
 -- What writing the dual tells, in document 01's numbers, and what the lent buffer then holds.
 use mathlib.Core.Bool.{cond}
-use mathlib.Core.List.{List, _++_}
+use mathlib.Core.List.{List}
 use Prim.Native.Nat.{ℕ}
 use lib.Dec.{leb}
-use lib.ListN.{length, drop}
+use lib.ListN.{length}
 use Rattle.papers.specs.Program.{Program}
 use Rattle.papers.specs.Outcome.{Outcome, accepted, refused}
 use Rattle.papers.specs.declared.Bare.the-variants as bare
 use Rattle.papers.specs.Told.{Told, tells, bareTold, refusalTold}
-use Rattle.dual.specs.declared.DualWritten.{DualWritten}
-use Rattle.dual.specs.declared.DualWritten.the-variants.{Length, Short, Refused}
-use Rattle.dual.specs.Table.{dual}
-use Rattle.dual.specs.Encoding.{encodeDual}
-
--- A program's dual, in bytes.
-abbrev pub dualOf : Program → List ℕ
-dualOf p = encodeDual (dual p)
+use Rattle.dual.specs.Bytes.{dualOf, filled}
+use Rattle.dual_writer.specs.declared.DualWritten.{DualWritten}
+use Rattle.dual_writer.specs.declared.DualWritten.the-variants.{Length, Short, Refused}
 
 -- What each answer tells: "the answer is the dual's length".
 unfoldable pub writtenTold : DualWritten → Told ℕ
@@ -27,10 +22,6 @@ writtenTold (Refused r) = refusalTold r
 unfoldable pub dualTold : Outcome Program → ℕ → Told ℕ
 dualTold (accepted p) room = cond (leb (length (dualOf p)) room) (tells (length (dualOf p))) (bareTold bare.ShortDual)
 dualTold (refused r) room = refusalTold r
-
--- "The writer fills the lent buffer from its start; bytes beyond stay."
-abbrev pub filled : List ℕ → List ℕ → List ℕ
-filled bytes buffer = bytes ++ drop (length bytes) buffer
 
 -- The buffer afterwards: unchanged on refusal.
 abbrev pub dualAfter : Outcome Program → List ℕ → List ℕ

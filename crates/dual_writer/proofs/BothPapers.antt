@@ -24,11 +24,12 @@ use Rattle.papers.specs.Told.{tells, bareTold}
 use Rattle.papers.proofs.NumberLaws.{Bytes}
 use Rattle.papers.proofs.Answered.{papers-accepted}
 use Rattle.papers.proofs.PapersAnswers.{BothTold}
-use Rattle.dual.proofs.DualWritten.{the-type}
-use Rattle.dual.specs.declared.DualWritten.{DualWritten}
-use Rattle.dual.specs.declared.DualWritten.the-variants.{Length, Short, Refused}
-use Rattle.dual.specs.Answers.{dualOf, writtenTold, dualTold, dualAfter, filled}
-use Rattle.dual.proofs.ToldLaws.{writtenFrom, written-from}
+use Rattle.dual_writer.proofs.DualWritten.{the-type}
+use Rattle.dual_writer.specs.declared.DualWritten.{DualWritten}
+use Rattle.dual_writer.specs.declared.DualWritten.the-variants.{Length, Short, Refused}
+use Rattle.dual.specs.Bytes.{dualOf, filled}
+use Rattle.dual_writer.specs.Answers.{writtenTold, dualTold, dualAfter}
+use Rattle.dual_writer.proofs.ToldLaws.{writtenFrom, written-from}
 use Rattle.papers.proofs.FileFacts.{program-valid, abducibles-are}
 
 -- ---- the papers
