@@ -1,7 +1,2 @@
--- Laws of the calls of the desk program and of what it prints.
-pub mod PaperLaws
-pub mod CallLaws
-pub mod TurnLaws
-pub mod TextLaws
-pub mod Printing
-pub mod Examples
+-- What the desk program hands to `write`.
+mod Printing

@@ -1,15 +1,12 @@
 // The desk program: it reads the files `causes` and `sheet` of its folder, searches for the minimal
 // explanations and prints them.
-mod output;
-mod searching;
-
 ghost use mathlib.Core.Path.{_≡_};
 ghost use lib.ListN.{length};
 ghost use Rattle.io.specs.Counts.{Counts};
 ghost use Rattle.papers.specs.Reading.{readPapers};
-ghost use Rattle.desk.specs.Output.{deskText};
+ghost use Rattle.printout.specs.Output.{deskText};
 use libc::STDOUT_FILENO;
-use output::write_report;
+use printout::write_report;
 
 // Reads until the buffer is full or the input ends, and answers how many bytes came; where a read
 // fails, none.

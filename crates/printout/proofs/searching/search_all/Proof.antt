@@ -1,4 +1,4 @@
--- `desk::searching::search_all` meets its contract. The loop's invariant: the calls stand where they reached, and are finished where they do not go on.
+-- `printout::searching::search_all` meets its contract. The loop's invariant: the calls stand where they reached, and are finished where they do not go on.
 -- Assumes nothing.
 use mathlib.Core.Path.{_≡_, refl, sym, subst, _∙_}
 use mathlib.Core.Bool.{Bool, false}
@@ -9,11 +9,11 @@ use denote.Ref.{now}
 use lib.ListN.{length}
 use Rattle.papers.specs.Reading.{readPapers}
 use Rattle.steps.specs.Scenarios.{Problem, stop}
-use Rattle.desk.specs.declared.searching.Progress.{Progress}
-use Rattle.desk.specs.Search.{problemFor, Stands, GoneOn, Finished}
-use Rattle.desk.proofs.TurnLaws.{left, Turned, turned, begins}
-use Rattle.desk.proofs.searching.search_all.Statement.{statement}
-use Rattle.desk.proofs.searching.search_all.Tie as tie
+use Rattle.printout.specs.declared.searching.Progress.{Progress}
+use Rattle.printout.specs.Search.{problemFor, Stands, GoneOn, Finished}
+use Rattle.printout.proofs.TurnLaws.{left, Turned, turned, begins}
+use Rattle.printout.proofs.searching.search_all.Statement.{statement}
+use Rattle.printout.proofs.searching.search_all.Tie as tie
 
 abbrev Inv-loop : tie.InvT-loop
 Inv-loop file sheet dual₀ list₀ progress₀ going₀ dual list progress going =

@@ -11,8 +11,8 @@ use Rattle.steps.specs.Computing.{computing}
 use Rattle.report.specs.Decimal.{digits, decimal}
 use Rattle.report.specs.Text.{spaced, line}
 use Rattle.report.specs.Lines.{stateWord, sign, assumption, assumptions, headingLine, foundLine, lastLine}
-use Rattle.desk.specs.Search.{lastState}
-use Rattle.desk.specs.Output.{foundLines, searchText, deskText}
+use Rattle.printout.specs.Search.{lastState}
+use Rattle.printout.specs.Output.{foundLines, searchText, deskText}
 
 -- File `01 0001 01 02 0002 0002 03 0002 0001 04 0004 0000 0004 7F 0000`,
 pub causes : List ℕ

@@ -1,4 +1,4 @@
--- `desk::output::write_report` meets its contract.
+-- `printout::write_report` meets its contract.
 -- Assumes nothing.
 use mathlib.Core.Path.{_∙_}
 use native.Mathlib.Omega.{arith}
@@ -7,9 +7,9 @@ use denote.Ref.{now}
 use Rattle.papers.specs.Reading.{readPapers}
 use Rattle.papers.proofs.Answered.{papers-accepted, papers-refused}
 use Rattle.papers.proofs.ToldLaws.{papers-told}
-use Rattle.desk.specs.Output.{deskText}
-use Rattle.desk.proofs.output.write_report.Statement.{statement}
-use Rattle.desk.proofs.output.write_report.Tie as tie
+use Rattle.printout.specs.Output.{deskText}
+use Rattle.printout.proofs.write_report.Statement.{statement}
+use Rattle.printout.proofs.write_report.Tie as tie
 
 read-papers-requires : tie.Need-read-papers-requires
 read-papers-requires c κs = search needs

@@ -20,10 +20,10 @@ use Rattle.report.specs.Text.{Put}
 use Rattle.report.specs.Lines.{headingLine, foundLine, lastLine}
 use Rattle.report.proofs.Putting.{put-two}
 use Rattle.report.proofs.LineLengths.{found-length}
-use Rattle.desk.specs.declared.searching.Progress.{Progress}
-use Rattle.desk.specs.Search.{problemFor, Stands, lastState, Finished}
-use Rattle.desk.specs.Output.{foundLines, searchText, deskText}
-use Rattle.desk.proofs.PaperLaws.{Small, problem-is}
+use Rattle.printout.specs.declared.searching.Progress.{Progress}
+use Rattle.printout.specs.Search.{problemFor, Stands, lastState, Finished}
+use Rattle.printout.specs.Output.{foundLines, searchText, deskText}
+use Rattle.printout.proofs.PaperLaws.{Small, problem-is}
 
 -- ---- the found lines, one by one
 

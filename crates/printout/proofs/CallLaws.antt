@@ -22,9 +22,9 @@ use Rattle.steps.proofs.Sums.{sum-rounds, sum-bound}
 use Rattle.steps.proofs.Canonical.{recordAt, listAt, workAt, listAt-found, listAt-length, continue-at}
 use Rattle.steps.proofs.Sound.{reached-unspoilt}
 use Rattle.steps.proofs.Calling.{answer-made}
-use Rattle.desk.specs.declared.searching.Progress.{Progress}
-use Rattle.desk.specs.Search.{problemFor, Stands, GoneOn}
-use Rattle.desk.proofs.PaperLaws.{Small, problem-is}
+use Rattle.printout.specs.declared.searching.Progress.{Progress}
+use Rattle.printout.specs.Search.{problemFor, Stands, GoneOn}
+use Rattle.printout.proofs.PaperLaws.{Small, problem-is}
 
 module _ (P : Problem) (list : List ℕ) (before : Progress) (stands : Stands P list before) where
   -- Record and list are those of a search that has come to its position.

@@ -14,7 +14,7 @@ use Rattle.steps.specs.declared.State.the-variants.{Going, Full, Ended}
 use Rattle.steps.specs.Scenarios.{Problem, scenarios, minimals, stop, sumBelow}
 use Rattle.steps.specs.Continuing.{stateBy}
 use Rattle.search.specs.Searching.{problemOf}
-use Rattle.desk.specs.declared.searching.Progress.{Progress}
+use Rattle.printout.specs.declared.searching.Progress.{Progress}
 
 -- Both papers are accepted.
 pub record Accepted (read : Outcome Papers) : Type 0 where

@@ -1,16 +1,18 @@
-// All that the desk program prints.
+// All that the desk program prints: the search to its end, and the lines.
+mod searching;
+
 ghost use mathlib.Core.Path.{_≡_};
 ghost use Prim.Native.Nat.{_≤_, _<_, _^_};
 ghost use lib.ListN.{length, take};
 ghost use Rattle.papers.specs.Field.{numbers};
 ghost use Rattle.papers.specs.Reading.{readPapers};
 ghost use Rattle.report.specs.Text.{Put};
-ghost use Rattle.desk.specs.Search.{AcceptedAs};
-ghost use Rattle.desk.specs.Output.{foundLines, deskText};
-use crate::searching::search_all;
+ghost use Rattle.printout.specs.Search.{AcceptedAs};
+ghost use Rattle.printout.specs.Output.{foundLines, deskText};
 use model::scenario_count;
 use papers::Contents;
 use papers::PapersRead;
+use searching::search_all;
 
 // The lines of the found entries.
 fn write_found_lines(
@@ -55,7 +57,7 @@ fn write_accepted(
     report::write_last(out, second, state, progress.tried, progress.rounds)
 }
 
-pub(crate) fn write_report(
+pub fn write_report(
     file: &[u8],
     sheet: &[u8],
     dual: &mut [u8],

@@ -7,7 +7,7 @@ use Rattle.papers.specs.Reading.{Papers}
 use Rattle.steps.specs.Scenarios.{scenarios, minimals, stop, sumBelow}
 use Rattle.search.specs.Searching.{problemOf}
 use Rattle.report.specs.Lines.{headingLine, foundLine, lastLine, refusedLine}
-use Rattle.desk.specs.Search.{lastState}
+use Rattle.printout.specs.Search.{lastState}
 
 -- "Each found entry, rising, has a line."
 unfoldable pub foundLines : List ℕ → List ℕ → List ℕ

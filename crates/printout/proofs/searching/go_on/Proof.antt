@@ -1,4 +1,4 @@
--- `desk::searching::go_on` meets its contract. Papers and buffer are such that the call reports.
+-- `printout::searching::go_on` meets its contract. Papers and buffer are such that the call reports.
 -- Assumes nothing.
 use mathlib.Core.Path.{_≡_, sym, ap, _∙_}
 use mathlib.Core.List.{List}
@@ -16,11 +16,11 @@ use Rattle.search.specs.declared.Report.{Report}
 use Rattle.search.specs.Searching.{continuedTold, continueTold}
 use Rattle.search.proofs.Continued.{the-type}
 use Rattle.search.proofs.ToldLaws.{reported-told}
-use Rattle.desk.specs.Search.{Accepted, problemFor}
-use Rattle.desk.proofs.PaperLaws.{small, dual-few}
-use Rattle.desk.proofs.CallLaws.{Called, tells-report, called}
-use Rattle.desk.proofs.searching.go_on.Statement.{statement}
-use Rattle.desk.proofs.searching.go_on.Tie as tie
+use Rattle.printout.specs.Search.{Accepted, problemFor}
+use Rattle.printout.proofs.PaperLaws.{small, dual-few}
+use Rattle.printout.proofs.CallLaws.{Called, tells-report, called}
+use Rattle.printout.proofs.searching.go_on.Statement.{statement}
+use Rattle.printout.proofs.searching.go_on.Tie as tie
 
 -- The tag of a report is none of the others'.
 never : {t : ℕ} → t ≡ 0 → (t ≡ 1) ⊎ ((t ≡ 2) ⊎ (t ≡ 3)) → ⊥

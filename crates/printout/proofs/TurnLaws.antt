@@ -12,8 +12,8 @@ use Rattle.steps.specs.declared.State.the-variants.{Going, Full, Ended}
 use Rattle.steps.specs.Scenarios.{Problem, scenarios, minimals, stop, sumBelow}
 use Rattle.steps.specs.Continuing.{fresh, stateBy}
 use Rattle.steps.proofs.Stopping.{stop-le}
-use Rattle.desk.specs.declared.searching.Progress.{Progress}
-use Rattle.desk.specs.Search.{isGoing, Stands, GoneOn, lastState, Finished}
+use Rattle.printout.specs.declared.searching.Progress.{Progress}
+use Rattle.printout.specs.Search.{isGoing, Stands, GoneOn, lastState, Finished}
 
 -- What is left to do: a turn more for a search that goes on.
 abbrev pub left : Problem → Progress → Bool → ℕ

@@ -1,4 +1,4 @@
--- `desk::output::write_found_lines` meets its contract. The loop's invariant: the lines of the entries from the i-th on are left to put.
+-- `printout::write_found_lines` meets its contract. The loop's invariant: the lines of the entries from the i-th on are left to put.
 -- Assumes nothing.
 use mathlib.Core.Path.{_≡_, refl, _∙_}
 use Prim.Native.Nat.{_+_, _-_, _*_, _≤_}
@@ -8,10 +8,10 @@ use lib.ListN.{length, getD, take, drop}
 use Rattle.papers.specs.Field.{numbers}
 use Rattle.report.specs.Lines.{foundLine}
 use Rattle.report.proofs.Putting.{Left, left-all, left-after, left-none}
-use Rattle.desk.specs.Output.{foundLines}
-use Rattle.desk.proofs.TextLaws.{lines-none, lines-next}
-use Rattle.desk.proofs.output.write_found_lines.Statement.{statement}
-use Rattle.desk.proofs.output.write_found_lines.Tie as tie
+use Rattle.printout.specs.Output.{foundLines}
+use Rattle.printout.proofs.TextLaws.{lines-none, lines-next}
+use Rattle.printout.proofs.write_found_lines.Statement.{statement}
+use Rattle.printout.proofs.write_found_lines.Tie as tie
 
 abbrev Inv-loop : tie.InvT-loop
 Inv-loop out₀ at list found abducibles end₀ i₀ out end i =

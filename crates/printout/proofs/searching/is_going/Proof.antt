@@ -1,9 +1,9 @@
--- `desk::searching::is_going` meets its contract.
+-- `printout::searching::is_going` meets its contract.
 -- Assumes nothing.
-use Rattle.desk.specs.Search.{isGoing}
+use Rattle.printout.specs.Search.{isGoing}
 use borrow.Author.Needs.{needs}
-use Rattle.desk.proofs.searching.is_going.Statement.{statement}
-use Rattle.desk.proofs.searching.is_going.Tie as tie
+use Rattle.printout.proofs.searching.is_going.Statement.{statement}
+use Rattle.printout.proofs.searching.is_going.Tie as tie
 
 enum-told : tie.Need-enum-told
 enum-told c = search needs

@@ -1,4 +1,4 @@
--- `desk::output::write_accepted` meets its contract.
+-- `printout::write_accepted` meets its contract.
 -- Assumes nothing.
 use mathlib.Core.Path.{_≡_, sym, subst, _∙_}
 use mathlib.Core.List.{List}
@@ -11,12 +11,12 @@ use Rattle.papers.specs.Field.{numbers}
 use Rattle.papers.specs.Reading.{readPapers}
 use Rattle.papers.proofs.NumberLaws.{Bytes}
 use Rattle.search.specs.Searching.{problemOf}
-use Rattle.desk.specs.Search.{AcceptedAs, problemFor}
-use Rattle.desk.specs.Output.{foundLines}
-use Rattle.desk.proofs.PaperLaws.{problem-is, small, program-valid, abducibles-below, listed-are, few-listed, atoms-told, listed-within, listed-there}
-use Rattle.desk.proofs.TextLaws.{few-found, lines-few, text-put, text-is}
-use Rattle.desk.proofs.output.write_accepted.Statement.{statement}
-use Rattle.desk.proofs.output.write_accepted.Tie as tie
+use Rattle.printout.specs.Search.{AcceptedAs, problemFor}
+use Rattle.printout.specs.Output.{foundLines}
+use Rattle.printout.proofs.PaperLaws.{problem-is, small, program-valid, abducibles-below, listed-are, few-listed, atoms-told, listed-within, listed-there}
+use Rattle.printout.proofs.TextLaws.{few-found, lines-few, text-put, text-is}
+use Rattle.printout.proofs.write_accepted.Statement.{statement}
+use Rattle.printout.proofs.write_accepted.Tie as tie
 
 sixteen : (c : tie.Start) → c .args .contents .abducibles ≤ 16
 sixteen c = few-listed (now (c .args .file)) (now (c .args .sheet)) (c .pre .0 .is) (c .pre .0 .told)

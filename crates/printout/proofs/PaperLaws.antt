@@ -22,7 +22,7 @@ use Rattle.dual.proofs.Bound.{dual-bound}
 use Rattle.model.proofs.Rounds.{rounds-le}
 use Rattle.steps.specs.Scenarios.{Problem, scenarios}
 use Rattle.search.specs.Searching.{problemOf}
-use Rattle.desk.specs.Search.{problemFor}
+use Rattle.printout.specs.Search.{problemFor}
 
 pub problem-is : {read : Outcome Papers} {q : Papers} → read ≡ accepted q → problemFor read ≡ problemOf q
 unfolding problemFor
