@@ -60,7 +60,7 @@ pub extern "C" fn finder_rest<'a>(file: &'a [u8], sheet: &'a [u8], out: &mut [u6
         *out = [0; 8];
         return;
     };
-    let rest = reading::rest_of_paper(file, sheet).len();
+    let rest = rest::rest_of_paper(file, sheet).len();
     *out = refusal_words(refusal, rest as u64, 0);
 }
 

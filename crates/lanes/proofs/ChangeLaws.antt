@@ -1,18 +1,49 @@
 -- The lanes that differ, as the loop over the words meets them.
 -- Assumes nothing.
 use mathlib.Core.Path.{_≡_, refl, sym, ap, _∙_}
-use mathlib.Core.Bool.{Bool, true, false, true≢false}
+use mathlib.Core.Bool.{Bool, true, false, not, true≢false, false≢true}
 use mathlib.Core.List.{List}
 use Prim.Native.Nat.{ℕ, _+_, _<_}
 use native.Mathlib.Decide.{ℕ-discrete}
 use native.Mathlib.Omega.{arith}
 use lib.Bits.{bitOr, bitXor}
 use lib.ListN.{getD}
-use Rattle.model.specs.Sets.{has}
+use Rattle.model.specs.Tests.{_or_}
+use Rattle.model.specs.Sets.{has, sameFlag}
 use Rattle.lanes.specs.Lanes.{inLane, lane, Changed}
 use Rattle.model.proofs.SetLaws.{length-setOf, has-setOf, set-ext}
-use Rattle.lanes.proofs.LaneLaws.{lane-none}
-use Rattle.lanes.proofs.BitLaws.{or-xor-clear, or-xor-set}
+use Rattle.lanes.proofs.LaneLaws.{lane-none, lane-or, lane-xor}
+
+-- ---- differences that are gathered in a word
+
+gathered : (w a b : Bool) → (w or not (sameFlag a b)) ≡ false → (w ≡ false) × (a ≡ b)
+unfolding _or_ sameFlag
+gathered true a b e = absurd (true≢false e)
+gathered false true true e = (refl, refl)
+gathered false true false e = absurd (true≢false e)
+gathered false false true e = absurd (true≢false e)
+gathered false false false e = (refl, refl)
+
+agreed : (a b : Bool) → (false or not (sameFlag a b)) ≡ true → a ≡ b → ⊥
+unfolding _or_ sameFlag
+agreed true true e q = false≢true e
+agreed true false e q = true≢false q
+agreed false true e q = false≢true q
+agreed false false e q = false≢true e
+
+module _ (l w a b : ℕ) where
+  by-lane : inLane l (bitOr w (bitXor a b)) ≡ (inLane l w or not (sameFlag (inLane l a) (inLane l b)))
+  by-lane = rw (lane-or l w (bitXor a b), lane-xor l a b)
+
+  -- A lane that stays clear: it was clear, and the two agree there.
+  or-xor-clear : inLane l (bitOr w (bitXor a b)) ≡ false → (inLane l w ≡ false) × (inLane l a ≡ inLane l b)
+  or-xor-clear h = gathered (inLane l w) (inLane l a) (inLane l b) (sym by-lane ∙ h)
+
+  -- A lane that is newly set: the two differ there.
+  or-xor-set : inLane l (bitOr w (bitXor a b)) ≡ true → inLane l w ≡ false → inLane l a ≡ inLane l b → ⊥
+  or-xor-set h c = agreed (inLane l a) (inLane l b) (ap (λ (x : Bool). x or not (sameFlag (inLane l a) (inLane l b))) (sym c) ∙ sym by-lane ∙ h)
+
+-- ---- the words
 
 -- Of the first o words, the lanes in which one differs.
 pub record Compared (before after : List ℕ) (word o : ℕ) : Type 0 where

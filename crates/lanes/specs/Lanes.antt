@@ -2,14 +2,12 @@
 use mathlib.Core.Path.{_≡_}
 use mathlib.Core.Bool.{Bool, true, false, cond}
 use mathlib.Core.List.{List}
-use Prim.Native.Nat.{ℕ, _+_, _/_, _%_, _^_, _≤_, _<_}
+use Prim.Native.Nat.{ℕ, _/_, _%_, _^_, _≤_, _<_}
 use lib.Dec.{eqb}
 use lib.Bits.{bitOr}
 use lib.ListN.{getD}
 use Rattle.literals.specs.Numbering.{explicitConjugate, judged, listed}
-use Rattle.papers.specs.Program.{Program}
 use Rattle.model.specs.Sets.{Set, setOf}
-use Rattle.model.specs.Scenarios.{trueAbducible, falseAbducible}
 
 -- Bit l of a word.
 unfoldable pub inLane : ℕ → ℕ → Bool
@@ -22,20 +20,6 @@ lane n l words = setOf n (λ o. inLane l (getD words o 0))
 -- Past the first n words no lane is set.
 pub record NoneBeyond (n : ℕ) (words : List ℕ) : Type 0 where
   pub at : (o : ℕ) → n ≤ o → getD words o 0 ≡ 0
-
--- A word with lane j by a test and the others as they were.
-pub record LaneSet (word j : ℕ) (test : Bool) (after : ℕ) : Type 0 where
-  pub there : inLane j after ≡ cond test true (inLane j word)
-  pub others : (k : ℕ) → (k ≡ j → ⊥) → inLane k after ≡ inLane k word
-
--- The lanes whose scenario, base + l, has this digit at a power of 3.
-pub record DigitLanes (base power digit word : ℕ) : Type 0 where
-  pub at : (l : ℕ) → l < 64 → inLane l word ≡ eqb ((base + l) / power % 3) digit
-
--- The true and the false abducible literals of the scenarios base + l, each in its lane.
-pub record AbducibleLanes (p : Program) (base : ℕ) (trues falses : List ℕ) : Type 0 where
-  pub true-at : (l o : ℕ) → l < 64 → inLane l (getD trues o 0) ≡ trueAbducible p (base + l) o
-  pub false-at : (l o : ℕ) → l < 64 → inLane l (getD falses o 0) ≡ falseAbducible p (base + l) o
 
 -- What backs o besides its 08 field, in each lane: its conjugate in T(j), or a false abducible literal.
 unfoldable pub backingWord : ℕ → List ℕ → List ℕ → ℕ → ℕ

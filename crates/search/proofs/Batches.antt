@@ -5,10 +5,10 @@ use mathlib.Core.List.{List}
 use mathlib.Core.Logic.{_⊎_, inl, inr}
 use Prim.Native.Nat.{ℕ, _+_, _-_, _<_, _≤_}
 use native.Mathlib.Omega.{arith}
-use Rattle.steps.specs.declared.stepping.Progress.{Progress}
+use Rattle.stepping.specs.declared.Progress.{Progress}
 use Rattle.steps.specs.Scenarios.{Problem, scenarios}
 use Rattle.steps.specs.Continuing.{steps}
-use Rattle.steps.specs.Stepping.{workOf, Kept, LanesTried, InLanes, Tried}
+use Rattle.stepping.specs.Stepping.{workOf, Kept, LanesTried, InLanes, Tried}
 use Rattle.steps.proofs.Steps.{step-end}
 use Rattle.steps.proofs.Runs.{steps-zero, steps-add, steps-still, steps-short}
 

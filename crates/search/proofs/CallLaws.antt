@@ -5,12 +5,12 @@ use mathlib.Core.Bool.{false}
 use mathlib.Core.List.{List}
 use Prim.Native.Nat.{ℕ}
 use native.Mathlib.Omega.{arith}
-use Rattle.steps.specs.declared.stepping.Progress.{Progress}
+use Rattle.stepping.specs.declared.Progress.{Progress}
 use Rattle.steps.specs.Scenarios.{Problem, scenarios}
 use Rattle.steps.specs.declared.Record.{Record}
 use Rattle.steps.specs.Continuing.{Work, steps, begun, reportOf, continue}
 use Rattle.steps.specs.Spoilt.{spoiltBy}
-use Rattle.steps.specs.Stepping.{workOf, Kept}
+use Rattle.stepping.specs.Stepping.{workOf, Kept}
 use Rattle.search.specs.Searching.{toldReport, reportBy}
 use Rattle.steps.proofs.Sound.{unspoilt-bounded}
 

@@ -8,7 +8,7 @@ use lib.ListN.{length, getD}
 use Rattle.papers.specs.Program.{Program, Query}
 use Rattle.settling.specs.VerdictLanes.{VerdictLanes}
 use Rattle.model.proofs.Rounds.{rounds-le}
-use Rattle.steps.specs.Stepping.{InLanes}
+use Rattle.stepping.specs.Stepping.{InLanes}
 use Rattle.search.specs.Searching.{problemOf}
 
 module _ (p : Program) (q : Query) {base word : ℕ} {counts : List ℕ} (v : VerdictLanes p q base word counts) where

@@ -18,13 +18,13 @@ use Rattle.settling.specs.VerdictLanes.{Prepared}
 use Rattle.search.specs.declared.Report.{Report as CallReport}
 use Rattle.search.specs.declared.Continued.{Continued}
 use Rattle.search.specs.declared.Continued.the-variants.{Reported, ShortDual, SpoiltSearch, Refused}
-use Rattle.steps.specs.declared.stepping.Progress.{Progress}
+use Rattle.stepping.specs.declared.Progress.{Progress}
 use Rattle.steps.specs.Scenarios.{Problem}
 use Rattle.steps.specs.declared.Record.{Record}
 use Rattle.steps.specs.Continuing.{Report, stateBy}
 use Rattle.steps.specs.Spoilt.{spoiltBy}
 use Rattle.steps.specs.Calls.{Call, Answer, refusal, report, answer, listAfter}
-use Rattle.steps.specs.Stepping.{Kept}
+use Rattle.stepping.specs.Stepping.{Kept}
 
 -- What a file and a sheet come to: "scenario s below 3^k", "a scenario is an explanation exactly if falsum's byte is 2 and each query
 -- literal holds", and "j is its round count".

@@ -14,9 +14,9 @@ use papers::Contents;
 use papers::PapersRead;
 use papers::Refusal;
 use searching::search_accepted;
+use stepping::spoilt::is_spoilt;
 use steps::Record;
 use steps::State;
-use steps::spoilt::is_spoilt;
 
 // What a call reports: the new record, the scenarios tried and their rounds, and the state.
 pub struct Report {

@@ -2,15 +2,15 @@
 ghost use mathlib.Core.Path.{_≡_};
 ghost use Prim.Native.Nat.{_≤_};
 ghost use Rattle.steps.specs.Continuing.{stateBy, continue};
-ghost use Rattle.steps.specs.Stepping.{Batch, Tried};
+ghost use Rattle.stepping.specs.Stepping.{Batch, Tried};
 ghost use Rattle.search.specs.Searching.{problemIn, toldReport, reportBy, Ready, Passed};
 use crate::Report;
 use papers::Contents;
 use settling::verdicts::judge_lanes;
+use stepping::Progress;
+use stepping::try_lanes;
 use steps::Record;
 use steps::State;
-use steps::stepping::Progress;
-use steps::stepping::try_lanes;
 
 // How many scenarios to judge next.
 fn batch_size(tried: u32, allowance: u32, position: u32, total: u32) -> u32

@@ -18,7 +18,8 @@ use Rattle.model.specs.Tests.{_and_, _or_}
 use Rattle.model.specs.Sets.{has}
 use Rattle.model.specs.Scenarios.{trueAbducible, undefinedAbducible, falseAbducible, trueAbducibles}
 use Rattle.model.specs.Model.{conjugateIn}
-use Rattle.lanes.specs.Lanes.{inLane, lane, backingWord, BackingWords, AbducibleLanes}
+use Rattle.lanes.specs.Lanes.{inLane, lane, backingWord, BackingWords}
+use Rattle.digits.specs.Digits.{AbducibleLanes}
 use Rattle.model.proofs.TestLaws.{either-left, is-true, is-false, true-and, false-and}
 use Rattle.model.proofs.SetLaws.{length-setOf, set-ext}
 use Rattle.model.proofs.ScenarioLaws.{other-possible, has-true}

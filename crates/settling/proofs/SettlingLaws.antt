@@ -17,7 +17,8 @@ use Rattle.model.specs.Tests.{_or_}
 use Rattle.model.specs.Sets.{Set, has, empty, complement}
 use Rattle.model.specs.Iteration.{iterate}
 use Rattle.model.specs.Model.{Interpretation, trueSet, falseSet, successor, start, interpretationAt, rounds}
-use Rattle.lanes.specs.Lanes.{inLane, lane, NoneBeyond, Changed, AbducibleLanes}
+use Rattle.lanes.specs.Lanes.{inLane, lane, NoneBeyond, Changed}
+use Rattle.digits.specs.Digits.{AbducibleLanes}
 use Rattle.lanes.specs.Words.{ComplementWords}
 use Rattle.settling.specs.RoundLanes.{NextRound, MarkedLanes, SettledLanes, HeldLanes}
 use Rattle.model.proofs.TestLaws.{is-false}

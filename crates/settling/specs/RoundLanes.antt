@@ -7,7 +7,8 @@ use lib.ListN.{getD}
 use Rattle.literals.specs.Numbering.{judged}
 use Rattle.papers.specs.Program.{Program}
 use Rattle.model.specs.Model.{trueSet, possibleSet, falseSet, rounds, model}
-use Rattle.lanes.specs.Lanes.{inLane, lane, NoneBeyond, AbducibleLanes}
+use Rattle.lanes.specs.Lanes.{inLane, lane, NoneBeyond}
+use Rattle.digits.specs.Digits.{AbducibleLanes}
 
 -- (T(j+1), F(j+1)) from (T(j), F(j)) in each lane; past the judged literals none.
 pub record NextRound (p : Program) (trues falses t f t′ f′ : List ℕ) : Type 0 where

@@ -15,7 +15,4 @@ pub mod Keeping
 pub mod Calling
 pub mod Pause
 pub mod Reached
-pub mod Walking
-pub mod Decisions
-pub mod Trying
 pub mod Examples

@@ -4,5 +4,4 @@ pub mod Continuing
 pub mod Spoilt
 pub mod Calls
 pub mod Demand
-pub mod Stepping
 pub mod Computing

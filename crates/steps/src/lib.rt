@@ -1,8 +1,5 @@
-// The single steps of a search for minimal explanations: what a step does, test 14, and the steps of up to 64 scenarios. Its theory is over
-// any problem, whatever an explanation is and whatever a scenario costs.
-mod parts;
-pub mod spoilt;
-pub mod stepping;
+// The search for minimal explanations by single steps: its definitions stand in specs/, its theory in proofs/, over any problem, whatever an
+// explanation is and whatever a scenario costs. The functions that make the steps are in the crate stepping.
 
 // A search: its next scenario, and how many of the list's entries are found ones.
 pub struct Record {

@@ -4,7 +4,7 @@ use mathlib.Core.Path.{_≡_, refl, _∙_}
 use Prim.Native.Nat.{_+_, _-_}
 use native.Mathlib.Omega.{arith}
 use borrow.Author.Needs.{needs}
-use Rattle.steps.specs.Stepping.{Batch, Tried}
+use Rattle.stepping.specs.Stepping.{Batch, Tried}
 use Rattle.search.specs.Searching.{problemIn}
 use Rattle.search.proofs.Batches.{tried-none, tried-then, tried-short, tried-done}
 use Rattle.search.proofs.searching.try_all.Statement.{statement}

@@ -1,0 +1,2 @@
+-- The digits of 64 scenarios, as words.
+pub mod Digits

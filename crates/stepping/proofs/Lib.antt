@@ -1,0 +1,5 @@
+-- The parts of scenarios and the found entries, as the loops over digits and entries meet them,
+mod Walking
+-- what a step does, and the steps of up to 64 scenarios.
+mod Decisions
+pub mod Trying

@@ -1,0 +1,111 @@
+-- What a decided step leaves, and how steps one by one are the steps of up to 64 scenarios.
+-- Assumes nothing.
+use mathlib.Core.Path.{_≡_, refl, sym, ap, subst, _∙_}
+use mathlib.Core.Bool.{Bool}
+use mathlib.Core.List.{List}
+use Prim.Native.Nat.{ℕ, _+_, _<_, _≤_}
+use native.Mathlib.Omega.{arith}
+use native.Mathlib.Numerals.{add-one}
+use lib.ListN.{getD, set, length-set}
+use Rattle.lanes.specs.Lanes.{inLane}
+use Rattle.stepping.specs.declared.Move.{Move as Told}
+use Rattle.stepping.specs.declared.Move.the-variants.{Stands, Tries, Writes}
+use Rattle.stepping.specs.declared.Progress.{Progress}
+use Rattle.steps.specs.Continuing.{work, step, steps}
+use Rattle.stepping.specs.Stepping.{workOf, Decided, Kept, LaneReady, LaneTried, LanesTried}
+use Rattle.steps.proofs.Steps.{step-stands, step-tries, step-writes}
+use Rattle.steps.proofs.Runs.{steps-zero, steps-last, steps-short}
+use Rattle.stepping.proofs.Decisions.{tries-inside, writes-inside, writes-room}
+
+-- ---- one scenario
+
+-- The next scenario, with so many found.
+abbrev pub next : Progress → ℕ → ℕ → Progress
+next s rounds found = record { position = s .position + 1; found = found; tried = s .tried + 1; rounds = s .rounds + rounds }
+
+module _ {k total : ℕ} {e : Bool} {rounds : ℕ} {s : Progress} {l : List ℕ} {told : Told} (ready : LaneReady k total rounds s l)
+    (decided : Decided k (s .position) (s .found) l e told) where
+  is-told : (m : Told) → told ≡ m → Decided k (s .position) (s .found) l e m
+  is-told m q = subst (Decided k (s .position) (s .found) l e) q decided
+
+  pub lane-stands : told ≡ Stands → LaneTried k total e rounds s l s l
+  lane-stands q = let d = is-told Stands q in record {
+    advance = record { kept = ready .kept; size = refl; least = omega arith; most = omega arith; moved = omega arith };
+    is = λ P a b r. step-stands P (s .position) (s .found) l (s .tried) (s .rounds) (d .is P a b);
+  }
+
+  pub lane-tries : told ≡ Tries → LaneTried k total e rounds s l (next s rounds (s .found)) l
+  lane-tries q =
+      let d = is-told Tries q in
+      let inside = tries-inside d in
+      record {
+        advance = record {
+          kept = record { within = omega arith; held = omega arith; few = omega arith; cost = omega arith };
+          size = refl;
+          least = omega arith;
+          most = omega arith;
+          moved = omega arith;
+        };
+        is = λ P a b r.
+            step-tries P (s .position) (s .found) l (s .tried) (s .rounds) (d .is P a b)
+            ∙ ap (λ (n : ℕ). work (s .position + 1) (s .found) l (s .tried + 1) (s .rounds + n)) r;
+      }
+
+  pub lane-writes : told ≡ Writes
+      → LaneTried k total e rounds s l (next s rounds (s .found + 1)) (set l (s .found) (s .position))
+  lane-writes q =
+      let d = is-told Writes q in
+      let inside = writes-inside d in
+      let room = writes-room d in
+      let n = length-set l (s .found) (s .position) in
+      record {
+        advance = record {
+          kept = record { within = omega arith; held = omega arith; few = omega arith; cost = omega arith };
+          size = n;
+          least = omega arith;
+          most = omega arith;
+          moved = omega arith;
+        };
+        is = λ P a b r.
+            step-writes P (s .position) (s .found) l (s .tried) (s .rounds) (d .is P a b)
+            ∙ ap (λ (n : ℕ). work (s .position + 1) (s .found + 1) (set l (s .found) (s .position)) (s .tried + 1) (s .rounds + n)) r;
+      }
+
+-- ---- up to 64 scenarios
+
+module _ {k total explained : ℕ} {rounds : List ℕ} where
+  pub lanes-none : {s : Progress} {l : List ℕ} → Kept total s l → LanesTried k total explained rounds 0 s l s l
+  lanes-none {s} {l} h = record {
+    advance = record { kept = h; size = refl; least = omega arith; most = omega arith; moved = omega arith };
+    is = λ P i. steps-zero P (workOf s l);
+  }
+
+  module _ {lane : ℕ} {s₀ : Progress} {l₀ : List ℕ} {s : Progress} {l : List ℕ} where
+    -- One more lane, where each before it was tried.
+    pub lanes-next : LanesTried k total explained rounds lane s₀ l₀ s l → s .tried ≡ s₀ .tried + lane → lane < 64
+        → {e : Bool} → e ≡ inLane lane explained
+        → {s′ : Progress} {l′ : List ℕ} → LaneTried k total e (getD rounds lane 0) s l s′ l′
+        → LanesTried k total explained rounds (lane + 1) s₀ l₀ s′ l′
+    lanes-next so-far all inside q one =
+        let g = so-far .advance in
+        let h = one .advance in
+        let at : s .position ≡ s₀ .position + lane = omega arith in
+        record {
+          advance = record { kept = h .kept; size = h .size ∙ g .size; least = omega arith; most = omega arith; moved = omega arith };
+          is = λ P i.
+              ap (λ (n : ℕ). steps P n (workOf s₀ l₀)) (add-one lane) ∙ steps-last P lane (workOf s₀ l₀) ∙ ap (step P) (so-far .is P i)
+              ∙ one .is P (i .abducibles) (ap (P .explains) at ∙ sym (i .explains lane inside) ∙ sym q)
+              (ap (P .rounds) at ∙ sym (i .costs lane inside));
+        }
+
+    -- Where fewer were tried than there were lanes, the other lanes change nothing.
+    pub lanes-short : {count : ℕ} → LanesTried k total explained rounds lane s₀ l₀ s l → lane ≤ count → s .tried < s₀ .tried + lane
+        → LanesTried k total explained rounds count s₀ l₀ s l
+    lanes-short {count} so-far h few =
+        let g = so-far .advance in
+        record {
+          advance = record { kept = g .kept; size = g .size; least = g .least; most = omega arith; moved = g .moved };
+          is = λ P i.
+              let e = so-far .is P i in
+              steps-short P lane count (workOf s₀ l₀) h (rw e few) ∙ e;
+        }

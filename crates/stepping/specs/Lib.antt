@@ -1,0 +1,2 @@
+-- The steps of a call as code makes them.
+pub mod Stepping
