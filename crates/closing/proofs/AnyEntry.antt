@@ -17,7 +17,6 @@ use Rattle.papers.proofs.Lists.{drop-after}
 use Rattle.dual.specs.Table.{foldsOf, hasEntry, foldField, dual}
 use Rattle.dual.specs.Encoding.{encodeFields}
 use Rattle.dual.specs.Bytes.{dualOf}
-use Rattle.model.specs.Tests.{_and_}
 use Rattle.model.specs.Falsity.{foldsHold}
 use Rattle.lanes.specs.Lanes.{lane}
 use Rattle.closing.specs.FalseWords.{literalIn, FieldStands, bytesFrom, EntriesAt, FoldsAt, FoldsWord, EntryWord}

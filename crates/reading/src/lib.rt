@@ -3,8 +3,6 @@
 mod file;
 
 ghost use mathlib.Core.Path.{_≡_};
-ghost use Prim.Native.Nat.{_≤_};
-ghost use lib.ListN.{length, drop};
 ghost use Rattle.papers.specs.Reading.{readFile, readSheet, readPapers};
 ghost use Rattle.papers.specs.Answers.{countAnswer, contentsOf};
 ghost use Rattle.papers.specs.Told.{readTold, fileTold, papersOf, papersTold};

@@ -1,7 +1,7 @@
 -- `settling::by_lane` meets its contract.
 -- Assumes nothing.
 use borrow.Author.Needs.{needs}
-use mathlib.Core.Path.{_≡_, sym, _∙_}
+use mathlib.Core.Path.{sym, _∙_}
 use Rattle.settling.proofs.by_lane.Statement.{statement}
 use Rattle.settling.proofs.by_lane.Tie as tie
 
