@@ -1,59 +1,73 @@
 //! What a call costs beside what it tries.
 
-use finder::{Record, SLOTS};
-use plain::desk::{ALLOWANCE, LIST_LENGTH};
-use plain::dual::LONGEST_DUAL;
+use finder::Record;
+use plain::desk::ALLOWANCE;
 
+use crate::columns::{cells, heads};
 use crate::files::Papers;
-use crate::timing::{microseconds, seconds_each};
+use crate::finders::{Buffers, Finder, Finders};
+use crate::measuring::{times, work};
+use crate::searching::record_of;
+use crate::timing::{microseconds, Work};
 
 const ALLOWANCES: [u32; 4] = [0, 1, 64, ALLOWANCE];
 
-pub fn print(papers: &Papers) {
+pub fn print(finders: &Finders, papers: &Papers) {
+    let all = finders.all();
     println!("\nA call on the {} file", papers.name);
-    println!("    {:36}{:>14}{:>14}", "", "a call", "a scenario");
-    let Papers { file, sheet, .. } = papers;
-    let mut dual = vec![0; LONGEST_DUAL];
-    let mut out = [0; SLOTS];
-    let reading = seconds_each(|| {
-        finder::rest_words(file, sheet, &mut out);
-        1
-    });
-    let writing = seconds_each(|| {
-        finder::write_dual_words(file, &mut dual, &mut out);
-        1
-    });
-    let line = |what: &str, call: f64, scenario: &str| {
-        println!("    {what:36}{:>14}{scenario:>14}", microseconds(call));
-    };
-    line("reading both papers", reading, "");
-    line("reading the file, writing its dual", writing, "");
+    println!("    {:36}{:>14}{}", "", "a scenario", heads(&all));
+    let reading = times(&all, |finder| Some(reading(finder, papers)));
+    print_line("reading both papers", 0, &reading);
+    let writing = times(&all, |finder| Some(writing(finder, papers)));
+    print_line("reading the file, writing its dual", 0, &writing);
     for allowance in ALLOWANCES {
-        let call = continuing(papers, &mut dual, allowance);
-        let scenario = match allowance {
-            0 => String::new(),
-            _ => microseconds(call / f64::from(allowance)),
-        };
         let what = format!("continuing with allowance {allowance}");
-        line(&what, call, &scenario);
+        let continuing = times(&all, |finder| Some(continuing(finder, papers, allowance)));
+        print_line(&what, allowance, &continuing);
     }
 }
 
-/// The seconds for each call of searches that go on with this allowance, each
-/// from the start where the one before has not so many scenarios left.
-fn continuing(papers: &Papers, dual: &mut [u8], allowance: u32) -> f64 {
-    let Papers { file, sheet, .. } = papers;
-    let mut list = vec![0; LIST_LENGTH];
+/// The times of a call that tries so many scenarios.
+fn print_line(what: &str, tried: u32, times: &[Option<f64>]) {
+    let library = times[0].expect("the time of the library");
+    let scenario = match tried {
+        0 => String::new(),
+        _ => microseconds(library / f64::from(tried)),
+    };
+    println!("    {what:36}{scenario:>14}{}", cells(times, microseconds));
+}
+
+fn reading<'p>(finder: &'p dyn Finder, papers: &'p Papers) -> Work<'p> {
+    work(finder, || {
+        let words = finder.rest(papers);
+        assert_eq!(words[0], 0, "the papers are accepted");
+        1
+    })
+}
+
+fn writing<'p>(finder: &'p dyn Finder, papers: &'p Papers) -> Work<'p> {
+    let mut buffers = Buffers::new();
+    work(finder, move || {
+        let words = finder.write_dual(papers, &mut buffers);
+        assert_eq!(words[0], 0, "the file is accepted");
+        1
+    })
+}
+
+/// Calls of searches that go on with this allowance, each from the start where
+/// the one before has not so many scenarios left.
+fn continuing<'p>(finder: &'p dyn Finder, papers: &'p Papers, allowance: u32) -> Work<'p> {
+    let mut buffers = Buffers::new();
     let mut record = Record::FRESH;
-    seconds_each(|| {
-        let answer = finder::continue_search(file, sheet, dual, &mut list, record, allowance);
-        let continued = answer.expect("an accepted call");
-        assert_eq!(continued.tried, allowance, "all that is allowed is tried");
-        let left = papers.scenarios - continued.record.position;
-        record = if left < allowance {
+    work(finder, move || {
+        let words = finder.continue_search(papers, record, allowance, &mut buffers);
+        let next = record_of(&words);
+        let tried = next.position - record.position;
+        assert_eq!(tried, allowance, "all that is allowed is tried");
+        record = if papers.scenarios - next.position < allowance {
             Record::FRESH
         } else {
-            continued.record
+            next
         };
         1
     })

@@ -3,18 +3,28 @@
 
 use std::ops::RangeInclusive;
 
-use crate::files::{Papers, Shape};
-use crate::searching::by_finder;
-use crate::timing::{grouped, microseconds, seconds_each};
+use crate::columns::{cells, heads};
+use crate::files::seeded::Shape;
+use crate::files::Papers;
+use crate::finders::{Finder, Finders};
+use crate::measuring::{times, work, Agreed};
+use crate::searching::whole;
+use crate::timing::{grouped, microseconds, milliseconds, Times};
 
 /// The seconds that no search is expected to take, else it is left out.
 const MOST: f64 = 60.0;
 
-pub fn print(shape: &Shape, abducibles: RangeInclusive<u16>) {
+pub fn print(finders: &Finders, shape: &Shape, abducibles: RangeInclusive<u16>) {
+    let libraries = finders.libraries();
     println!("\nA whole search over the rules of the {} file", shape.name);
     println!(
-        "    {:>10}{:>12}{:>8}{:>14}{:>14}{:>18}",
-        "abducibles", "scenarios", "found", "time", "a scenario", "times the before"
+        "    {:>10}{:>12}{:>8}{:>14}{:>18}{}",
+        "abducibles",
+        "scenarios",
+        "found",
+        "a scenario",
+        "times the before",
+        heads(&libraries)
     );
     let mut before: Option<f64> = None;
     for count in abducibles {
@@ -22,22 +32,33 @@ pub fn print(shape: &Shape, abducibles: RangeInclusive<u16>) {
             println!("    {count:>10}    left out: it would take longer than {MOST} s");
             return;
         }
-        let papers = Papers::new(&Shape {
+        let papers = Shape {
             abducibles: count,
             ..*shape
-        });
-        let mut found = 0;
-        let seconds = seconds_each(|| {
-            found = by_finder(&papers).found.len();
-            1
-        });
-        let times = before.map_or(String::new(), |before| format!("{:.2}", seconds / before));
+        }
+        .papers();
+        let (found, times) = searching(&libraries, &papers);
+        let seconds = times[0].expect("the time of the library");
+        let grown = before.map_or(String::new(), |before| format!("{:.2}", seconds / before));
         println!(
-            "    {count:>10}{:>12}{found:>8}{:>14}{:>14}{times:>18}",
+            "    {count:>10}{:>12}{found:>8}{:>14}{grown:>18}{}",
             grouped(papers.scenarios.into()),
-            format!("{:.2} ms", 1e3 * seconds),
             microseconds(seconds / f64::from(papers.scenarios)),
+            cells(&times, milliseconds)
         );
         before = Some(seconds);
     }
+}
+
+/// How many a whole search finds, and the seconds that it takes.
+fn searching(finders: &[&dyn Finder], papers: &Papers) -> (usize, Times) {
+    let agreed = Agreed::new();
+    let times = times(finders, |finder| {
+        let agreed = &agreed;
+        Some(work(finder, move || {
+            agreed.expect(&whole(finder, papers), finder);
+            1
+        }))
+    });
+    (agreed.answer().found.len(), times)
 }

@@ -1,13 +1,14 @@
 //! Whole searches as the desk program makes them: calls with its allowance over
 //! a list of its length, until ended or full.
 
-use plain::desk::{ALLOWANCE, LIST_LENGTH};
-use plain::dual::LONGEST_DUAL;
+use finder::Record;
+use plain::desk::ALLOWANCE;
 
 use crate::files::Papers;
+use crate::finders::{Buffers, Finder};
 
 /// What came of a whole search.
-#[derive(Debug, PartialEq, Eq)]
+#[derive(Clone, Debug, PartialEq, Eq)]
 pub struct Outcome {
     pub found: Vec<u32>,
     pub tried: u64,
@@ -15,50 +16,93 @@ pub struct Outcome {
     pub has_ended: bool,
 }
 
-pub fn by_finder(papers: &Papers) -> Outcome {
-    let mut dual = vec![0; LONGEST_DUAL];
-    let mut list = vec![0; LIST_LENGTH];
-    let mut record = finder::Record::FRESH;
-    let (mut tried, mut rounds) = (0, 0);
-    loop {
-        let Papers { file, sheet, .. } = papers;
-        let answer = finder::continue_search(file, sheet, &mut dual, &mut list, record, ALLOWANCE);
-        let continued = answer.expect("an accepted call");
-        record = continued.record;
-        tried += u64::from(continued.tried);
-        rounds += continued.rounds;
-        if continued.state != finder::State::Going {
-            list.truncate(record.found as usize);
-            return Outcome {
-                found: list,
-                tried,
-                rounds,
-                has_ended: continued.state == finder::State::Ended,
-            };
+/// The state of a search that was continued, as a word.
+const GOING: u64 = 0;
+const ENDED: u64 = 2;
+
+/// A search under way.
+pub struct Search<'s> {
+    finder: &'s dyn Finder,
+    papers: &'s Papers,
+    buffers: Buffers,
+    record: Record,
+    tried: u64,
+    rounds: u64,
+    state: u64,
+}
+
+impl<'s> Search<'s> {
+    pub fn fresh(finder: &'s dyn Finder, papers: &'s Papers) -> Self {
+        Search {
+            finder,
+            papers,
+            buffers: Buffers::new(),
+            record: Record::FRESH,
+            tried: 0,
+            rounds: 0,
+            state: GOING,
+        }
+    }
+
+    pub fn is_going(&self) -> bool {
+        self.state == GOING
+    }
+
+    /// Makes the next call.
+    pub fn call(&mut self) {
+        let (papers, record) = (self.papers, self.record);
+        let words = self
+            .finder
+            .continue_search(papers, record, ALLOWANCE, &mut self.buffers);
+        self.record = record_of(&words);
+        let [.., tried, rounds, state] = words;
+        self.tried += tried;
+        self.rounds += rounds;
+        self.state = state;
+    }
+
+    fn outcome(mut self) -> Outcome {
+        self.buffers.list.truncate(self.record.found as usize);
+        Outcome {
+            found: self.buffers.list,
+            tried: self.tried,
+            rounds: self.rounds,
+            has_ended: self.state == ENDED,
         }
     }
 }
 
-pub fn by_plain(papers: &Papers) -> Outcome {
-    let mut dual = vec![0; LONGEST_DUAL];
-    let mut list = vec![0; LIST_LENGTH];
-    let mut record = plain::Record::FRESH;
-    let (mut tried, mut rounds) = (0, 0);
-    loop {
-        let Papers { file, sheet, .. } = papers;
-        let answer = plain::continue_search(file, sheet, &mut dual, &mut list, record, ALLOWANCE);
-        let continued = answer.expect("an accepted call");
-        record = continued.record;
-        tried += u64::from(continued.tried);
-        rounds += continued.rounds;
-        if continued.state != plain::State::Going {
-            list.truncate(record.found as usize);
-            return Outcome {
-                found: list,
-                tried,
-                rounds,
-                has_ended: continued.state == plain::State::Ended,
-            };
-        }
+pub fn whole(finder: &dyn Finder, papers: &Papers) -> Outcome {
+    let mut search = Search::fresh(finder, papers);
+    while search.is_going() {
+        search.call();
+    }
+    search.outcome()
+}
+
+/// The record in the words of a call that was not refused.
+pub fn record_of(words: &[u64; 8]) -> Record {
+    let [number, _, _, position, found, ..] = *words;
+    assert_eq!(number, 0, "the call is accepted");
+    let word = |slot| u32::try_from(slot).expect("a word of 32 bits");
+    Record {
+        position: word(position),
+        found: word(found),
+    }
+}
+
+#[cfg(test)]
+mod tests {
+    use super::*;
+    use crate::files::seeded::MIDDLE;
+    use crate::finders::Linked;
+
+    #[test]
+    fn a_search_of_many_calls_goes_through_all_scenarios() {
+        let papers = MIDDLE.papers();
+        let outcome = whole(&Linked, &papers);
+        assert_eq!(outcome.tried, 59_049);
+        assert_eq!(outcome.found.len(), 23);
+        assert!(outcome.has_ended);
     }
 }

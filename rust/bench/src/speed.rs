@@ -1,11 +1,13 @@
-//! Scenarios settled a second, by either finder.
+//! Scenarios settled a second.
 
-use plain::dual::LONGEST_DUAL;
-use plain::model::LONGEST_MODEL;
+use compare::words::Words;
 
+use crate::columns::{cells, heads};
 use crate::files::Papers;
-use crate::searching::{by_finder, by_plain, Outcome};
-use crate::timing::{a_second, grouped, seconds_each};
+use crate::finders::{Buffers, Finder, Finders, Linked};
+use crate::measuring::{times, work, Agreed};
+use crate::searching::{whole, Outcome};
+use crate::timing::{a_second, grouped, Times};
 
 /// How many scenarios are judged between two looks at the clock.
 const JUDGED_AT_ONCE: u32 = 64;
@@ -13,17 +15,38 @@ const JUDGED_AT_ONCE: u32 = 64;
 /// From one scenario that is judged to the next; no power of 3 divides it.
 const STRIDE: u32 = 7_919;
 
-pub fn print(files: &[&Papers]) {
+/// The most rules times scenarios that a slow finder goes through in some
+/// seconds.
+const MOST_IF_SLOW: u64 = 50_000_000;
+
+/// The files of `judged` have a line for scenarios that are judged each by a
+/// call of its own, then all have one for whole searches.
+pub fn print(finders: &Finders, files: &[&Papers], judged: &[&Papers]) {
+    let outcomes: Vec<Outcome> = files.iter().map(|papers| whole(&Linked, papers)).collect();
+    print_files(files, &outcomes);
+    println!("\nScenarios settled a second of one core");
+    let all = finders.all();
+    println!("    {:12}{:22}{}", "", "", heads(&all));
+    for papers in judged {
+        print_line(papers.name, "one scenario a call", &judging(&all, papers));
+    }
+    for (papers, outcome) in files.iter().zip(&outcomes) {
+        let times = searching(&all, papers, outcome);
+        print_line(papers.name, "whole searches", &times);
+    }
+    println!("    -: left out, as it would take long");
+}
+
+fn print_files(files: &[&Papers], outcomes: &[Outcome]) {
     println!("The files");
     println!(
-        "    {:8}{:>7}{:>11}{:>12}{:>11}{:>8}{:>19}",
+        "    {:12}{:>7}{:>11}{:>12}{:>11}{:>8}{:>19}",
         "", "rules", "integrity", "abducibles", "scenarios", "found", "rounds a scenario"
     );
-    let outcomes: Vec<Outcome> = files.iter().map(|papers| by_finder(papers)).collect();
-    for (papers, outcome) in files.iter().zip(&outcomes) {
+    for (papers, outcome) in files.iter().zip(outcomes) {
         assert!(outcome.has_ended, "a whole search has room");
         println!(
-            "    {:8}{:>7}{:>11}{:>12}{:>11}{:>8}{:>19.2}",
+            "    {:12}{:>7}{:>11}{:>12}{:>11}{:>8}{:>19.2}",
             papers.name,
             grouped(papers.program.rules.len() as u64),
             papers.program.integrity_bodies.len(),
@@ -33,70 +56,88 @@ pub fn print(files: &[&Papers]) {
             outcome.rounds as f64 / outcome.tried as f64,
         );
     }
+}
 
-    println!("\nScenarios settled a second of one core");
-    println!(
-        "    {:8}{:22}{:>12}{:>12}{:>9}",
-        "", "", "finder", "plain", "ratio"
-    );
-    for (papers, outcome) in files.iter().zip(&outcomes) {
-        let finder = seconds_each(judging(papers, judged_by_finder));
-        let plain = seconds_each(judging(papers, judged_by_plain));
-        print_line(papers.name, "one scenario a call", finder, plain);
-        let finder = seconds_each(|| by_finder(papers).tried);
-        let plain = seconds_each(|| {
-            let by_plain = by_plain(papers);
-            assert_eq!(by_plain, *outcome, "both find the same");
-            by_plain.tried
+fn print_line(name: &str, how: &str, times: &[Option<f64>]) {
+    println!("    {name:12}{how:22}{}", cells(times, a_second));
+}
+
+/// The seconds for a scenario that is judged by a call of its own.
+fn judging(finders: &[&dyn Finder], papers: &Papers) -> Times {
+    check_judging(finders, papers);
+    times(finders, |finder| {
+        let mut buffers = Buffers::new();
+        let mut last = 0;
+        Some(work(finder, move || {
+            for scenario in some_scenarios(papers, last) {
+                finder.judge(papers, scenario, &mut buffers);
+                last = scenario;
+            }
+            JUDGED_AT_ONCE.into()
+        }))
+    })
+}
+
+/// All must give the same, and leave the same in the buffers.
+fn check_judging(finders: &[&dyn Finder], papers: &Papers) {
+    let agreed = Agreed::new();
+    for &finder in finders {
+        let mut buffers = Buffers::new();
+        let answers: Vec<(Words, Buffers)> = some_scenarios(papers, 0)
+            .map(|scenario| {
+                let words = finder.judge(papers, scenario, &mut buffers);
+                (words, buffers.clone())
+            })
+            .collect();
+        agreed.expect(&answers, finder);
+    }
+}
+
+/// Scenarios all over the file, behind this one.
+fn some_scenarios(papers: &Papers, last: u32) -> impl Iterator<Item = u32> {
+    let scenarios = papers.scenarios;
+    (1..=JUDGED_AT_ONCE).map(move |step| (last + step * STRIDE) % scenarios)
+}
+
+/// The seconds for a scenario in whole searches, of which this comes.
+fn searching(finders: &[&dyn Finder], papers: &Papers, outcome: &Outcome) -> Times {
+    times(finders, |finder| {
+        let takes_too_long = finder.is_slow() && is_long(papers);
+        let searching = work(finder, move || {
+            let given = whole(finder, papers);
+            assert_eq!(given, *outcome, "{} differs", finder.name());
+            given.tried
         });
-        print_line(papers.name, "whole searches", finder, plain);
+        (!takes_too_long).then_some(searching)
+    })
+}
+
+/// Whether a slow finder would take long for a whole search.
+fn is_long(papers: &Papers) -> bool {
+    let folds = papers.program.folds().count() as u64;
+    folds * u64::from(papers.scenarios) > MOST_IF_SLOW
+}
+
+#[cfg(test)]
+mod tests {
+    use super::*;
+    use crate::files::many_finds;
+    use crate::files::seeded::{LARGE, MIDDLE_12, SMALL_12};
+
+    #[test]
+    fn only_the_longest_search_is_too_long_for_a_slow_finder() {
+        assert!(is_long(&MIDDLE_12.papers()));
+        let others = [LARGE.papers(), SMALL_12.papers(), many_finds::papers()];
+        assert!(!others.iter().any(is_long));
     }
-}
 
-fn print_line(name: &str, how: &str, finder: f64, plain: f64) {
-    println!(
-        "    {name:8}{how:22}{:>12}{:>12}{:>9.1}",
-        a_second(finder),
-        a_second(plain),
-        plain / finder
-    );
-}
-
-/// Buffers to judge in.
-struct Buffers {
-    dual: Vec<u8>,
-    model: Vec<u8>,
-}
-
-/// Judges some scenarios, each by a call of its own.
-fn judging<'p>(
-    papers: &'p Papers,
-    judge: fn(&Papers, u32, &mut Buffers),
-) -> impl FnMut() -> u64 + 'p {
-    let mut buffers = Buffers {
-        dual: vec![0; LONGEST_DUAL],
-        model: vec![0; LONGEST_MODEL],
-    };
-    let mut scenario = 0;
-    move || {
-        for _ in 0..JUDGED_AT_ONCE {
-            judge(papers, scenario, &mut buffers);
-            scenario = (scenario + STRIDE) % papers.scenarios;
-        }
-        JUDGED_AT_ONCE.into()
+    #[test]
+    fn the_scenarios_judged_differ() {
+        let papers = LARGE.papers();
+        let mut some: Vec<u32> = some_scenarios(&papers, 5).collect();
+        some.sort_unstable();
+        some.dedup();
+        assert_eq!(some.len() as u32, JUDGED_AT_ONCE);
+        assert!(some.iter().all(|&scenario| scenario < papers.scenarios));
     }
-}
-
-fn judged_by_finder(papers: &Papers, scenario: u32, buffers: &mut Buffers) {
-    let Papers { file, sheet, .. } = papers;
-    let Buffers { dual, model } = buffers;
-    let judgement = finder::judge(file, sheet, scenario, dual, model);
-    judgement.expect("an accepted call");
-}
-
-fn judged_by_plain(papers: &Papers, scenario: u32, buffers: &mut Buffers) {
-    let Papers { file, sheet, .. } = papers;
-    let Buffers { dual, model } = buffers;
-    let judgement = plain::judge(file, sheet, scenario, dual, model);
-    judgement.expect("an accepted call");
 }

@@ -4,43 +4,44 @@
 use std::ffi::{c_int, c_ulong, c_void};
 use std::ptr::null_mut;
 
-use plain::desk::LIST_LENGTH;
-use plain::dual::LONGEST_DUAL;
-use plain::model::LONGEST_MODEL;
+use compare::words::Words;
+use finder::Record;
 
 use crate::files::Papers;
+use crate::finders::{Buffers, Finders};
 
 /// What a call may take.
-const BOUND: usize = 1 << 20;
+const BOUND: usize = 256 << 10;
 
 /// What the thread has, as words.
 const STACK_WORDS: usize = (4 << 20) / size_of::<u64>();
 const PATTERN: u64 = 0xA5C3_5A3C_96E1_781E;
 
-pub fn print(papers: &Papers) {
-    let Papers { file, sheet, .. } = papers;
-    let mut dual = vec![0; LONGEST_DUAL];
-    let mut model = vec![0; LONGEST_MODEL];
-    let mut list = vec![0; LIST_LENGTH];
+pub fn print(finders: &Finders, papers: &Papers) {
     let nothing = used_by(|| {});
-    let judging = used_by(|| {
-        let judgement = finder::judge(file, sheet, papers.scenarios - 1, &mut dual, &mut model);
-        judgement.expect("an accepted call");
-    });
-    let searching = used_by(|| {
-        let fresh = finder::Record::FRESH;
-        let answer = finder::continue_search(file, sheet, &mut dual, &mut list, fresh, u32::MAX);
-        answer.expect("an accepted call");
-    });
     println!(
         "\nThe stack of a call on the {} file, beside the {} of a thread that does nothing",
         papers.name,
         kilobytes(nothing)
     );
-    for (what, used) in [("judging", judging), ("a whole search", searching)] {
-        let used = used - nothing;
-        let verdict = if used < BOUND { "under" } else { "NOT UNDER" };
-        println!("    {what:20}{:>12}, {verdict} 1 MiB", kilobytes(used));
+    for finder in finders.libraries() {
+        let mut buffers = Buffers::new();
+        let mut words = [Words::default(); 2];
+        let judging = used_by(|| {
+            let last = papers.scenarios - 1;
+            words[0] = finder.judge(papers, last, &mut buffers);
+        });
+        let searching = used_by(|| {
+            words[1] = finder.continue_search(papers, Record::FRESH, u32::MAX, &mut buffers);
+        });
+        let are_accepted = words.iter().all(|words| words[0] == 0);
+        assert!(are_accepted, "the calls are accepted");
+        for (what, used) in [("judging", judging), ("a whole search", searching)] {
+            let used = used - nothing;
+            let verdict = if used < BOUND { "under" } else { "NOT UNDER" };
+            let (name, used) = (finder.name(), kilobytes(used));
+            println!("    {what:20}{name:10}{used:>12}, {verdict} 256 KiB");
+        }
     }
 }
 

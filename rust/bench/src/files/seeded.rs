@@ -7,11 +7,10 @@
 //! other. All of it comes from a seed.
 
 use compare::programs::{fails, holds};
-use plain::{
-    encode_file, encode_sheet, scenario_count, Atom, Literal, ObjectiveLiteral, Program, Query,
-    Rule,
-};
+use plain::{Atom, Literal, ObjectiveLiteral, Program, Query, Rule};
 use random::Random;
+
+use super::Papers;
 
 /// What a file is made from.
 #[derive(Clone, Copy)]
@@ -66,31 +65,29 @@ pub const LARGE: Shape = Shape {
     unseen: 237,
 };
 
-/// Papers that are accepted.
-pub struct Papers {
-    pub name: &'static str,
-    pub file: Vec<u8>,
-    pub sheet: Vec<u8>,
-    pub program: Program,
-    pub scenarios: u32,
-}
+/// With so many abducibles that a search is long. The causes change with them,
+/// and so do the rules, but not what there is of them.
+pub const SMALL_12: Shape = Shape {
+    name: "small 12",
+    causes: 12,
+    abducibles: 12,
+    ..SMALL
+};
 
-impl Papers {
-    pub fn new(shape: &Shape) -> Self {
-        let program = program(shape);
+pub const MIDDLE_12: Shape = Shape {
+    name: "middle 12",
+    abducibles: 12,
+    ..MIDDLE
+};
+
+impl Shape {
+    pub fn papers(&self) -> Papers {
+        let seen = holds(effect(self, self.seen));
+        let unseen = fails(effect(self, self.unseen));
         let query = Query {
-            literals: vec![
-                holds(effect(shape, shape.seen)),
-                fails(effect(shape, shape.unseen)),
-            ],
+            literals: vec![seen, unseen],
         };
-        Papers {
-            name: shape.name,
-            file: encode_file(&program),
-            sheet: encode_sheet(&query),
-            scenarios: scenario_count(&program),
-            program,
-        }
+        Papers::new(self.name, program(self), &query)
     }
 }
 
@@ -181,7 +178,7 @@ mod tests {
     use compare::judged::Judged;
     use plain::{explanations, minimal_explanations, model, read_papers, Judgement};
 
-    const SHAPES: [Shape; 3] = [SMALL, MIDDLE, LARGE];
+    const SHAPES: [Shape; 5] = [SMALL, MIDDLE, LARGE, SMALL_12, MIDDLE_12];
 
     /// Some scenarios of a file, judged.
     fn some_judged(papers: &Papers) -> Vec<Judged> {
@@ -205,17 +202,18 @@ mod tests {
         let sizes = SHAPES.map(|shape| {
             let Program {
                 rules, abducibles, ..
-            } = Papers::new(&shape).program;
+            } = shape.papers().program;
             assert!(rules.iter().all(|rule| (1..=4).contains(&rule.body.len())));
             (rules.len(), abducibles.len())
         });
-        assert_eq!(sizes, [(24, 6), (120, 10), (1_024, 8)]);
+        let expected = [(24, 6), (120, 10), (1_024, 8), (24, 12), (120, 12)];
+        assert_eq!(sizes, expected);
     }
 
     #[test]
     fn rings_and_explicit_negation_matter_in_each_file() {
         for shape in SHAPES {
-            let papers = Papers::new(&shape);
+            let papers = shape.papers();
             let judged = some_judged(&papers);
             let ring = |it: &&Judged| it.has_failing_ring();
             let negation = |it: &&Judged| {
@@ -231,7 +229,7 @@ mod tests {
 
     #[test]
     fn the_small_query_has_some_explanations_but_few() {
-        let papers = Papers::new(&SMALL);
+        let papers = SMALL.papers();
         let (program, query) = read_papers(&papers.file, &papers.sheet).expect("accepted");
         assert_eq!(explanations(&program, &query).len(), 66);
         assert_eq!(minimal_explanations(&program, &query).len(), 8);

@@ -1,0 +1,256 @@
+//! Another build of the library, from a shared object:
+//! `gcc -shared -o OTHER.so -Wl,--whole-archive libfinder_c.a -Wl,--no-whole-archive`
+//!
+//! It is opened by its path, as its functions have the names of those that are
+//! linked.
+
+use std::ffi::{c_char, c_int, c_void, CStr, CString};
+use std::fs::canonicalize;
+use std::mem::transmute_copy;
+use std::os::unix::ffi::OsStrExt;
+use std::path::Path;
+
+use compare::words::Words;
+use finder::Record;
+
+use crate::files::Papers;
+use crate::finders::{Buffers, Finder};
+
+// As include/finder.h has them: a paper, a buffer or the list is a pointer and
+// a length.
+type Rest = unsafe extern "C" fn(*const u8, usize, *const u8, usize, *mut u64);
+type WriteDual = unsafe extern "C" fn(*const u8, usize, *mut u8, usize, *mut u64);
+type Judge = unsafe extern "C" fn(
+    *const u8,
+    usize,
+    *const u8,
+    usize,
+    u32,
+    *mut u8,
+    usize,
+    *mut u8,
+    usize,
+    *mut u64,
+);
+type Continue = unsafe extern "C" fn(
+    *const u8,
+    usize,
+    *const u8,
+    usize,
+    *mut u8,
+    usize,
+    *mut u32,
+    usize,
+    u32,
+    u32,
+    u32,
+    *mut u64,
+);
+
+extern "C" {
+    fn dlopen(path: *const c_char, flags: c_int) -> *mut c_void;
+    fn dlsym(object: *mut c_void, name: *const c_char) -> *mut c_void;
+}
+
+/// All is resolved at once, and nothing of it is seen by others.
+const NOW_AND_LOCAL: c_int = 2;
+
+pub struct Other {
+    rest: Rest,
+    write_dual: WriteDual,
+    judge: Judge,
+    continue_search: Continue,
+}
+
+impl Other {
+    /// Opens the shared object, which must be a build of the library. It stays
+    /// open.
+    pub fn open(path: &Path) -> Result<Self, String> {
+        let told = |what: String| format!("{}: {what}", path.display());
+        // A name without a folder would be looked for elsewhere.
+        let whole = canonicalize(path).map_err(|error| told(error.to_string()))?;
+        let bytes = CString::new(whole.as_os_str().as_bytes()).expect("a path has no 0");
+        // SAFETY: the path ends with 0; opening a build of the library runs
+        // nothing of it; each function has the type that goes with its name.
+        unsafe {
+            let object = dlopen(bytes.as_ptr(), NOW_AND_LOCAL);
+            if object.is_null() {
+                return Err(told("not a shared object".to_string()));
+            }
+            Ok(Other {
+                rest: function(object, c"finder_rest").map_err(told)?,
+                write_dual: function(object, c"finder_write_dual").map_err(told)?,
+                judge: function(object, c"finder_judge").map_err(told)?,
+                continue_search: function(object, c"finder_continue").map_err(told)?,
+            })
+        }
+    }
+}
+
+/// The function of this name.
+///
+/// # Safety
+///
+/// The object is open, and F is the type of a pointer to that function.
+unsafe fn function<F>(object: *mut c_void, name: &CStr) -> Result<F, String> {
+    assert_eq!(size_of::<F>(), size_of::<*mut c_void>(), "a pointer");
+    // SAFETY: the object is open and the name ends with 0.
+    let address = unsafe { dlsym(object, name.as_ptr()) };
+    if address.is_null() {
+        return Err(format!("it has no {}", name.to_string_lossy()));
+    }
+    // SAFETY: that is what F is.
+    Ok(unsafe { transmute_copy(&address) })
+}
+
+/// The calls are as safe as those of the crate `finder`: each slice is lent
+/// with its own length, each buffer is lent alone, and `out` has eight words.
+impl Finder for Other {
+    fn name(&self) -> &'static str {
+        "other"
+    }
+
+    fn rest(&self, papers: &Papers) -> Words {
+        let Papers { file, sheet, .. } = papers;
+        let mut out = Words::default();
+        // SAFETY: see above.
+        unsafe {
+            (self.rest)(
+                file.as_ptr(),
+                file.len(),
+                sheet.as_ptr(),
+                sheet.len(),
+                out.as_mut_ptr(),
+            );
+        }
+        out
+    }
+
+    fn write_dual(&self, papers: &Papers, buffers: &mut Buffers) -> Words {
+        let (file, dual) = (&papers.file, &mut buffers.dual);
+        let mut out = Words::default();
+        // SAFETY: see above.
+        unsafe {
+            (self.write_dual)(
+                file.as_ptr(),
+                file.len(),
+                dual.as_mut_ptr(),
+                dual.len(),
+                out.as_mut_ptr(),
+            );
+        }
+        out
+    }
+
+    fn judge(&self, papers: &Papers, scenario: u32, buffers: &mut Buffers) -> Words {
+        let Papers { file, sheet, .. } = papers;
+        let Buffers { dual, model, .. } = buffers;
+        let mut out = Words::default();
+        // SAFETY: see above.
+        unsafe {
+            (self.judge)(
+                file.as_ptr(),
+                file.len(),
+                sheet.as_ptr(),
+                sheet.len(),
+                scenario,
+                dual.as_mut_ptr(),
+                dual.len(),
+                model.as_mut_ptr(),
+                model.len(),
+                out.as_mut_ptr(),
+            );
+        }
+        out
+    }
+
+    fn continue_search(
+        &self,
+        papers: &Papers,
+        record: Record,
+        allowance: u32,
+        buffers: &mut Buffers,
+    ) -> Words {
+        let Papers { file, sheet, .. } = papers;
+        let Buffers { dual, list, .. } = buffers;
+        let mut out = Words::default();
+        // SAFETY: see above.
+        unsafe {
+            (self.continue_search)(
+                file.as_ptr(),
+                file.len(),
+                sheet.as_ptr(),
+                sheet.len(),
+                dual.as_mut_ptr(),
+                dual.len(),
+                list.as_mut_ptr(),
+                list.len(),
+                record.position,
+                record.found,
+                allowance,
+                out.as_mut_ptr(),
+            );
+        }
+        out
+    }
+}
+
+#[cfg(test)]
+mod tests {
+    use super::*;
+    use crate::files::seeded::SMALL;
+    use crate::finders::Finders;
+    use crate::measuring::Agreed;
+    use std::process::{id, Command};
+    use std::{env, fs};
+
+    const ARCHIVE: &str = concat!(
+        env!("CARGO_MANIFEST_DIR"),
+        "/../../target/staticlib/libfinder_c.a"
+    );
+
+    /// What comes of a shared object that is linked with these arguments.
+    fn opened(name: &str, arguments: &[&str]) -> Result<Other, String> {
+        let path = env::temp_dir().join(format!("bench-{name}-{}.so", id()));
+        let linking = Command::new("cc")
+            .args(["-shared", "-o"])
+            .arg(&path)
+            .args(arguments)
+            .status();
+        assert!(linking.expect("cc, which links Rust as well").success());
+        let opened = Other::open(&path);
+        fs::remove_file(&path).expect("what was linked");
+        opened
+    }
+
+    #[test]
+    fn another_build_of_the_library_answers() {
+        let whole = ["-Wl,--whole-archive", ARCHIVE, "-Wl,--no-whole-archive"];
+        let other = opened("whole", &whole).expect("a library");
+        let finders = Finders { other: Some(other) };
+        let papers = SMALL.papers();
+        let agreed = Agreed::new();
+        for finder in finders.libraries() {
+            let mut buffers = Buffers::new();
+            let words = [
+                finder.rest(&papers),
+                finder.write_dual(&papers, &mut buffers),
+                finder.judge(&papers, 5, &mut buffers),
+                finder.continue_search(&papers, Record::FRESH, 9, &mut buffers),
+            ];
+            agreed.expect(&(words, buffers), finder);
+        }
+        assert_eq!(finders.libraries().len(), 2);
+    }
+
+    #[test]
+    fn what_is_no_library_is_told() {
+        let why = |opened: Result<Other, String>| opened.err().expect("no library");
+        let empty = why(opened("empty", &["-x", "c", "/dev/null"]));
+        assert!(empty.ends_with("it has no finder_rest"), "{empty}");
+        let archive = why(Other::open(Path::new(ARCHIVE)));
+        assert!(archive.ends_with("not a shared object"), "{archive}");
+        let missing = why(Other::open(Path::new("no/such.so")));
+        assert!(missing.starts_with("no/such.so: No such file"), "{missing}");
+    }
+}
