@@ -1,0 +1,53 @@
+-- `ordering::settle` meets its contract.
+-- Assumes nothing.
+use denote.Ref.{now}
+use Rattle.ordering.proofs.OrderLaws.{stays, own-ordered}
+use borrow.Author.Needs.{needs}
+use Rattle.ordering.proofs.settle.Statement.{statement}
+use Rattle.ordering.proofs.settle.Tie as tie
+
+is-order-requires : tie.Need-is-order-requires
+is-order-requires c κs = search needs
+
+same-length : tie.Need-same-length
+same-length c = search needs
+
+same-length-2 : tie.Need-same-length-2
+same-length-2 c = search needs
+
+returns : tie.Need-returns
+returns c =
+    let a = c .before .before .before .before .before .before .args in
+    (c .before .is-order .ensures (c .if1 .taken), stays (a .count) (now (a .ranks)))
+
+count-up-requires : tie.Need-count-up-requires
+count-up-requires c κs = search needs
+
+count-up-requires-2 : tie.Need-count-up-requires-2
+count-up-requires-2 c κs = search needs
+
+same-length-3 : tie.Need-same-length-3
+same-length-3 c = search needs
+
+same-length-4 : tie.Need-same-length-4
+same-length-4 c = search needs
+
+returns-2 : tie.Need-returns-2
+returns-2 c =
+    let first = c .before .before .before .before .before .before .count-up in
+    let second = c .before .before .count-up2 in
+    (own-ordered (first .ensures) (second .ensures), second .ensures .stays)
+
+pub settle-spec : {M : Type 1} → statement M
+settle-spec =
+    tie.close
+    (tie.spec
+    is-order-requires
+    same-length
+    same-length-2
+    returns
+    count-up-requires
+    count-up-requires-2
+    same-length-3
+    same-length-4
+    returns-2)

@@ -1,0 +1,2 @@
+-- Orders in which rows are visited.
+pub mod Orders

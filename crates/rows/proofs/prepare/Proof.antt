@@ -1,0 +1,161 @@
+-- `rows::prepare` meets its contract.
+-- Assumes nothing.
+use borrow.Author.Needs.{needs}
+use native.Mathlib.Omega.{arith}
+use mathlib.Core.Path.{_≡_, sym, ap, _∙_}
+use Prim.Native.Nat.{ℕ, _+_, _≤_}
+use lib.ListN.{length}
+use denote.Ref.{now}
+use Rattle.literals.specs.Numbering.{judged}
+use Rattle.papers.specs.Program.{Program}
+use Rattle.papers.specs.Reading.{programIn}
+use Rattle.papers.proofs.FileFacts.{atoms-are}
+use Rattle.papers.proofs.FoldAnswers.{rules-counted, few-folds}
+use Rattle.rows.specs.Rows.{ruleRows, entryRows, joined}
+use Rattle.rows.proofs.RowLaws.{rule-rows-count, rule-rows-bound, entry-rows-count, entry-rows-bound}
+use Rattle.rows.proofs.PreparedLaws.{rows-prepared}
+use Rattle.rows.proofs.prepare.Statement.{statement}
+use Rattle.rows.proofs.prepare.Tie as tie
+
+-- ---- what the file says
+
+module _ (c : tie.Start) where
+  abbrev program : Program
+  program = programIn (now (c .args .file))
+
+  abbrev count : ℕ
+  count = c .args .contents .rules .count + c .args .contents .integrity .count
+
+  few : count ≤ 1280
+  few = few-folds (now (c .args .file)) (c .args .contents) (c .pre .0 .answer)
+
+  rules-listed : count ≡ length (ruleRows program)
+  rules-listed = rules-counted (now (c .args .file)) (c .args .contents) (c .pre .0 .answer) ∙ sym (rule-rows-count program)
+
+  rules-room : length (joined (ruleRows program)) ≤ length (now (c .args .rules))
+  rules-room = omega (arith, rule-rows-bound program (c .pre .1 .0 .valid), c .pre .1 .1 .0)
+
+  entries-room : length (joined (entryRows program)) ≤ length (now (c .args .entries))
+  entries-room = omega (arith, entry-rows-bound program (c .pre .1 .0 .valid), c .pre .1 .1 .1 .1 .0)
+
+-- ---- where the judged literals are counted
+
+module _ (c : tie.After-judged) where
+  abbrev start : tie.Start
+  start = c .before .before .before .before .before .before .before
+
+  counted : c .judged .result ≡ judged (program start .atoms)
+  counted = c .judged .ensures ∙ ap judged (sym (atoms-are (now (start .args .file)) (start .args .contents) (start .pre .0 .answer)))
+
+  judged-few : c .judged .result ≤ 513
+  judged-few = omega (arith, counted, start .pre .1 .0 .valid .fewAtoms)
+
+  entries-listed : c .judged .result ≡ length (entryRows (program start))
+  entries-listed = counted ∙ sym (entry-rows-count (program start))
+
+-- ---- one call after the other
+
+abbrev judged-at : tie.After-decode-rules → tie.After-judged
+judged-at c = c .before .before .before .before .before .before .before
+
+abbrev rules-at : tie.After-entry-starts → tie.After-decode-rules
+rules-at c = c .before .before .before .before .before
+
+abbrev dual-at : tie.After-order-rows-arg4 → tie.After-decode-dual
+dual-at c = c .before .before .before .before .before .before .before .before .before
+
+judged-requires : tie.Need-judged-requires
+judged-requires c κs = search needs
+
+add-count : tie.Need-add-count
+add-count c = omega (arith, few (start (c .before .before .before .before)))
+
+slice-aggregate-decode-rules : tie.Need-slice-aggregate-decode-rules
+slice-aggregate-decode-rules c = search needs
+
+decode-rules-requires : tie.Need-decode-rules-requires
+decode-rules-requires c κs = search needs
+
+slice-aggregate-decode-dual : tie.Need-slice-aggregate-decode-dual
+slice-aggregate-decode-dual c = search needs
+
+decode-dual-requires : tie.Need-decode-dual-requires
+decode-dual-requires c κs =
+    let j = judged-at (rules-at c) in
+    let s = start j in
+    (s .pre .1 .0, (counted j, (s .pre .1 .1 .1 .1 .0, omega arith)))
+
+slice-aggregate-order-rows : tie.Need-slice-aggregate-order-rows
+slice-aggregate-order-rows c = search needs
+
+slice-aggregate-order-rows-2 : tie.Need-slice-aggregate-order-rows-2
+slice-aggregate-order-rows-2 c = search needs
+
+order-rows-requires : tie.Need-order-rows-requires
+order-rows-requires c κs =
+    let d = dual-at c in
+    let r = rules-at (d .before) in
+    let j = judged-at r in
+    let s = start j in
+    let few-entries = judged-few j in
+    let few-rules = few s in (
+      few-entries,
+      (
+        few-rules,
+        (
+          omega (arith, d .decode-dual .kept .1 .1 .1 .1 .0),
+          (
+            omega (arith, s .pre .1 .1 .1 .1 .1),
+            (omega (arith, r .decode-rules .kept .1 .1 .1 .1 .0), omega (arith, s .pre .1 .1 .1 .0)),
+          ),
+        ),
+      ),
+    )
+
+same-length : tie.Need-same-length
+same-length c = search needs
+
+same-length-2 : tie.Need-same-length-2
+same-length-2 c = search needs
+
+same-length-3 : tie.Need-same-length-3
+same-length-3 c = search needs
+
+same-length-4 : tie.Need-same-length-4
+same-length-4 c = search needs
+
+returns : tie.Need-returns
+returns c =
+    let o = c .before .before .before .before in
+    let d = dual-at (o .before) in
+    let r = rules-at (d .before) in
+    let j = judged-at r in
+    let s = start j in (
+      rows-prepared (ruleRows (program s)) (now (s .args .rules)) (r .decode-rules .last .1 .1 .1 .0) (now (s .args .rule-visits))
+          (o .order-rows .last .1 .1 .1 .1 .1 .1 .0) (rules-room s) (omega (arith, few s, rules-listed s, s .pre .1 .1 .1 .0)) _
+          (r .decode-rules .last .1 .1 .1 .1 .0) (r .decode-rules .ensures .0) (r .decode-rules .ensures .1) (count s) (rules-listed s)
+          (o .order-rows .ensures .1 .1 .0) (o .order-rows .ensures .1 .1 .1),
+      rows-prepared (entryRows (program s)) (now (s .args .entries)) (d .decode-dual .last .1 .1 .1 .0) (now (s .args .entry-visits))
+          (o .order-rows .last .1 .1 .0) (entries-room s) (omega (arith, judged-few j, entries-listed j, s .pre .1 .1 .1 .1 .1)) _
+          (d .decode-dual .last .1 .1 .1 .1 .0) (d .decode-dual .ensures .0) (d .decode-dual .ensures .1) (j .judged .result) (entries-listed j)
+          (o .order-rows .ensures .0) (o .order-rows .ensures .1 .0),
+    )
+
+pub prepare-spec : {M : Type 1} → statement M
+prepare-spec =
+    tie.close
+    (tie.spec
+    judged-requires
+    add-count
+    slice-aggregate-decode-rules
+    decode-rules-requires
+    slice-aggregate-decode-dual
+    decode-dual-requires
+    slice-aggregate-order-rows
+    slice-aggregate-order-rows-2
+    order-rows-requires
+    same-length
+    same-length-2
+    same-length-3
+    same-length-4
+    returns)

@@ -1,0 +1,79 @@
+-- The rules of a program and its dual as rows of numbers, one after the other in an array, so that the passes over them read no bytes.
+use mathlib.Core.Path.{_≡_}
+use mathlib.Core.Bool.{cond}
+use mathlib.Core.List.{List, [], _∷_, _++_, map}
+use Prim.Native.Nat.{ℕ, zero, suc, _+_, _≤_, _<_}
+use lib.ListN.{length, getD, take}
+use Rattle.literals.specs.Numbering.{defaultConjugate, judged}
+use Rattle.papers.specs.Program.{Rule, Program, allRules, ruleAt}
+use Rattle.dual.specs.Table.{foldsOf, hasEntry}
+use Rattle.dual.specs.Bytes.{filled}
+use Rattle.ordering.specs.Orders.{Visits, StaysFrom}
+
+-- ---- rows
+
+-- A rule: its head, how many literals its body has, and these.
+unfoldable pub ruleRow : Rule → List ℕ
+ruleRow r = r .head ∷ length (r .body) ∷ r .body
+
+-- Clauses: for each how many literals it lists, and these.
+unfoldable pub clausesRow : List (List ℕ) → List ℕ
+clausesRow [] = []
+clausesRow (clause ∷ more) = length clause ∷ (clause ++ clausesRow more)
+
+-- The clause of a fold: the literals that its 09 field lists.
+abbrev pub clauseOf : Program → ℕ → List ℕ
+clauseOf p k = map defaultConjugate ((ruleAt p k) .body)
+
+-- The clauses of o's entry, one for each fold. Without an entry o is backed by no rule: one clause that lists nothing, so that it never holds.
+unfoldable pub clausesOf : Program → ℕ → List (List ℕ)
+clausesOf p o = cond (hasEntry p o) (map (clauseOf p) (foldsOf p o)) ([] ∷ [])
+
+-- An entry: its objective literal, how many numbers its clauses take, and these.
+unfoldable pub entryRow : Program → ℕ → List ℕ
+entryRow p o = o ∷ length (clausesRow (clausesOf p o)) ∷ clausesRow (clausesOf p o)
+
+-- Those of `count` objective literals from o on.
+unfoldable pub entryRowsFrom : Program → ℕ → ℕ → List (List ℕ)
+entryRowsFrom p zero o = []
+entryRowsFrom p (suc count) o = entryRow p o ∷ entryRowsFrom p count (o + 1)
+
+abbrev pub ruleRows : Program → List (List ℕ)
+ruleRows p = map ruleRow (allRules p)
+
+abbrev pub entryRows : Program → List (List ℕ)
+entryRows p = entryRowsFrom p (judged (p .atoms)) 0
+
+-- ---- in an array
+
+-- Rows one after the other.
+unfoldable pub joined : List (List ℕ) → List ℕ
+joined [] = []
+joined (row ∷ more) = row ++ joined more
+
+-- An array in which numbers are laid from a place on; what stands before and after them stays.
+unfoldable pub laid : ℕ → List ℕ → List ℕ → List ℕ
+laid at row before = filled (take at before ++ row) before
+
+-- Where each row starts; past the last the numbers stay.
+pub record Starts (rows : List (List ℕ)) (before after : List ℕ) : Type 0 where
+  pub at : (k : ℕ) → k < length rows → getD after k 0 ≡ length (joined (take k rows))
+  pub beyond : (k : ℕ) → length rows ≤ k → getD after k 0 ≡ getD before k 0
+
+-- A row stands at a place.
+pub record StandsAt (row numbers : List ℕ) (place : ℕ) : Type 0 where
+  pub within : place + length row ≤ length numbers
+  pub at : (i : ℕ) → i < length row → getD numbers (place + i) 0 ≡ getD row i 0
+
+-- The rows stand there, each from its start on, and all of them are visited and nothing else.
+pub record Stand (rows : List (List ℕ)) (numbers visits : List ℕ) : Type 0 where
+  pub starts : List ℕ
+  pub sized : length visits ≡ length rows
+  pub each : (k : ℕ) → k < length rows → StandsAt (getD rows k []) numbers (getD starts k 0)
+  pub visited : Visits (length rows) starts visits
+
+-- Rows laid from the start of an array on, with visits to all of them; past these the numbers stay.
+pub record Prepared (rows : List (List ℕ)) (before after visited visits : List ℕ) : Type 0 where
+  pub written : after ≡ filled (joined rows) before
+  pub stand : Stand rows after (take (length rows) visits)
+  pub stays : StaysFrom (length rows) visited visits
