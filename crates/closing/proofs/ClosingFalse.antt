@@ -6,30 +6,30 @@ use mathlib.Core.List.{List}
 use Prim.Native.Nat.{ℕ, _+_, _<_}
 use native.Mathlib.Omega.{arith}
 use lib.Dec.{T}
-use lib.ListN.{length, getD, replicate}
+use lib.ListN.{length, getD}
 use Rattle.literals.specs.Numbering.{judged}
 use Rattle.papers.specs.Program.{Program}
-use Rattle.papers.proofs.Lists.{getD-zeros}
 use Rattle.dual.specs.Table.{dual}
 use Rattle.model.specs.Tests.{_or_}
 use Rattle.model.specs.Sets.{Set, has}
 use Rattle.model.specs.Scenarios.{falseAbducible}
 use Rattle.model.specs.Model.{conjugateIn}
 use Rattle.model.specs.Falsity.{entryHolds, backed, greatest}
-use Rattle.lanes.specs.Lanes.{inLane, lane, NoneBeyond}
-use Rattle.closing.specs.FalseWords.{GivenBacked, GreatestGiven, FalseWords, DroppedTo}
-use Rattle.lanes.specs.Words.{ComplementWords, total}
+use Rattle.lanes.specs.Lanes.{inLane, lane, KeptFrom, Written}
+use Rattle.closing.specs.FalseWords.{EntriesStand, objectiveIn, GivenBacked, GreatestGiven, FalseWords, DroppedTo}
+use Rattle.closing.proofs.EntriesVisited.{objective-every}
+use Rattle.lanes.specs.Words.{sameWord, total}
 use Rattle.model.proofs.TestLaws.{or-assoc}
 use Rattle.model.proofs.SetLaws.{has-within}
 use Rattle.model.proofs.FalsityLaws.{greatest-only}
-use Rattle.lanes.proofs.LaneLaws.{lane-none, sized as lane-sized, has-lane}
+use Rattle.lanes.proofs.LaneLaws.{lane-full, sized as lane-sized, has-lane}
 
 -- ---- all passes
 
 -- Nothing of a backed set is lost so far; where the passes have stopped, each is backed.
-pub record Closing (p : Program) (truth backing falses : List ℕ) (going : Bool) : Type 0 where
+pub record Closing (p : Program) (truth backing before falses : List ℕ) (going : Bool) : Type 0 where
   pub long : length falses ≡ 513
-  pub beyond : NoneBeyond (judged (p .atoms)) falses
+  pub beyond : KeptFrom (judged (p .atoms)) before falses
   pub keeps : (l : ℕ) → l < 64 → (t : Set) → GivenBacked p (lane (judged (p .atoms)) l backing) (lane (judged (p .atoms)) l truth) t
       → (o : ℕ) → T (has t o) → T (inLane l (getD falses o 0))
   pub backed : going ≡ false → (l o : ℕ) → l < 64 → o < judged (p .atoms) → T (inLane l (getD falses o 0))
@@ -39,31 +39,34 @@ pub record Closing (p : Program) (truth backing falses : List ℕ) (going : Bool
 abbrev pub left : List ℕ → Bool → ℕ
 left falses going = total falses + cond going 1 0
 
-module _ (p : Program) (truth backing : List ℕ) where
-  -- All judged literals: what nothing leaves.
-  pub closing-none : {count : ℕ} {all : List ℕ} → count ≡ judged (p .atoms) → length all ≡ 513 → ComplementWords count (replicate 513 0) all
-      → Closing p truth backing all true
-  closing-none {count} {all} e long c = record {
+module _ (p : Program) (truth backing before : List ℕ) where
+  -- All judged literals.
+  pub closing-none : {count : ℕ} {entry : List ℕ} → count ≡ judged (p .atoms) → length before ≡ 513
+      → Written count (sameWord 18446744073709551615) entry before → Closing p truth backing before before true
+  unfolding sameWord
+  closing-none {count} {entry} e long c = record {
     long = long;
-    beyond = record { at = λ o h. c .beyond .at o (omega arith) };
+    beyond = record { at = λ o h. refl };
     keeps = λ l h t b o y.
         let m = has-within t o y in
         let z = b .sized in
-        rw (c .at l o h (omega arith), getD-zeros 513 o, lane-none l) tt;
+        rw (c .at o (omega arith), lane-full l h) tt;
     backed = λ e. absurd (true≢false e);
   }
 
-  module _ (falses after : List ℕ) (changed : Bool) (w : Closing p truth backing falses true)
-      (count : ℕ) (all : count ≡ judged (p .atoms)) (d : DroppedTo count p truth backing falses after changed) where
-    pub closing-more : Closing p truth backing after changed
+  module _ (falses after : List ℕ) (changed : Bool) (w : Closing p truth backing before falses true) (rows visits : List ℕ)
+      (s : EntriesStand p rows visits) (d : DroppedTo (objectiveIn rows visits) (length visits) p truth backing falses after changed) where
+    pub closing-more : Closing p truth backing before after changed
     closing-more = record {
       long = d .long;
-      beyond = record { at = λ o h. d .beyond o (omega arith) ∙ w .beyond .at o h };
+      beyond = record { at = λ o h. d .beyond .at o h ∙ w .beyond .at o h };
       keeps = λ l h t b. d .keeps l h t b (w .keeps l h t b);
       backed = λ e l o h k x.
-          let s = d .same e in
-          let y : T (inLane l (getD falses o 0)) = rw (ap (λ (words : List ℕ). inLane l (getD words o 0)) s) at x in
-          rw s (d .backed e l o h (omega arith) y);
+          let q = d .same e in
+          let v = objective-every s o k in
+          let y : T (inLane l (getD falses (objectiveIn rows visits (v .0)) 0)) =
+          rw (v .1 .1) (rw (ap (λ (words : List ℕ). inLane l (getD words o 0)) q) at x) in
+          rw q (rw (v .1 .1) at (d .backed e l (v .0) h (v .1 .0) y));
     }
 
     pub closing-less : left after changed < left falses true
@@ -72,7 +75,7 @@ module _ (p : Program) (truth backing : List ℕ) where
       go true e = let f = d .fewer e in omega arith
       go false e = let f = ap total (d .same e) in omega arith
 
-  pub closing-done : (falses : List ℕ) → Closing p truth backing falses false → FalseWords p truth backing falses
+  pub closing-done : (falses : List ℕ) → Closing p truth backing before falses false → FalseWords p truth backing before falses
   closing-done falses w = record {
     at = λ l h. record {
       backed = record {
@@ -111,9 +114,9 @@ module _ (p : Program) (s : ℕ) (given trues set : Set)
       (λ t b. record { at = g .holds t (record { sized = b .sized; each = λ o y. rw (backed-is t o (judged-in t o (b .sized) y)) (b .each o y) }) })
 
 -- In a lane of words.
-pub lane-greatest : (p : Program) (s l : ℕ) (truth backing falses : List ℕ) → l < 64 → FalseWords p truth backing falses
+pub lane-greatest : (p : Program) (s l : ℕ) (truth backing before falses : List ℕ) → l < 64 → FalseWords p truth backing before falses
     → ((o : ℕ) → o < judged (p .atoms) → inLane l (getD backing o 0) ≡ (conjugateIn (p .atoms) (lane (judged (p .atoms)) l truth) o or falseAbducible p s o))
     → lane (judged (p .atoms)) l falses ≡ greatest p s (dual p) (lane (judged (p .atoms)) l truth)
-lane-greatest p s l truth backing falses h w is =
+lane-greatest p s l truth backing before falses h w is =
     given-greatest p s (lane (judged (p .atoms)) l backing) (lane (judged (p .atoms)) l truth) (lane (judged (p .atoms)) l falses)
     (λ o k. has-lane (judged (p .atoms)) l o backing k ∙ is o k) (w .at l h)

@@ -1,7 +1,7 @@
 -- Closing sets of 64 lanes under the rules: what a rule and a pass keep, why passes end, and that they end at the least set of each lane.
 -- Assumes nothing.
 use mathlib.Core.Path.{_≡_, refl, sym, ap, subst, _∙_}
-use mathlib.Core.Bool.{Bool, true, false, cond}
+use mathlib.Core.Bool.{Bool, true, false, not, cond}
 use mathlib.Core.List.{List, [], _∷_}
 use mathlib.Core.Logic.{⊎-elim}
 use Prim.Native.Nat.{ℕ, suc, _+_, _-_, _*_, _≤_, _<_}
@@ -10,54 +10,52 @@ use native.Mathlib.Decide.{ℕ-discrete}
 use borrow.Author.Tests.{eqb-true, eqb-false, eq-eqb, ne-eqb, not-true, not-false}
 use lib.Bits.{bitOr, or-add-and, and-le-r, or-lt}
 use lib.Dec.{T, eqb, eqb→eq, eqb-refl}
-use lib.ListN.{length, getD, set, length-set}
+use lib.ListN.{length, getD, take, drop, set, length-set, length-map}
 use lib.Seq.{getD-set-same, getD-set-other, set-getD}
-use Rattle.literals.specs.Numbering.{judged}
-use Rattle.papers.specs.declared.Contents.{Contents}
-use Rattle.papers.specs.declared.FileRead.the-variants.{Accepted}
-use Rattle.papers.specs.Program.{Rule, Program, noRule, allRules}
-use Rattle.papers.specs.Valid.{Valid}
-use Rattle.papers.specs.Reading.{readFile, programIn}
-use Rattle.papers.specs.Answers.{fileAnswer}
-use Rattle.papers.proofs.Lists.{all-each}
-use Rattle.papers.proofs.RuleLaws.{rule-fitting, head-within}
-use Rattle.papers.proofs.FileFacts.{program-valid}
+use Rattle.papers.specs.Program.{Rule, noRule}
+use Rattle.papers.proofs.Lists.{getD-map-lt}
 use Rattle.model.specs.Tests.{_and_, _or_}
 use Rattle.model.specs.Sets.{Set, has, full}
 use Rattle.model.specs.LeastSet.{bodyHolds, supported, Reduct, least}
-use Rattle.model.specs.Scenarios.{trueAbducibles}
-use Rattle.model.specs.Model.{trueReduct, trueSet}
 use Rattle.lanes.specs.Lanes.{inLane, lane}
 use Rattle.lanes.specs.Words.{Literals, total, Laned}
-use Rattle.closing.specs.Closing.{Raised, Passed, begun, then, ClosedTrue}
+use Rattle.closing.specs.Closing.{ruleIn, rulesIn, RulesStand, Judged, Raised, Passed, begun, then}
 use Rattle.model.proofs.TestLaws.{both, left, right, either, either-left, either-right, true-and, false-and, true-or, false-or, or-false}
 use Rattle.model.proofs.SetLaws.{Sub, has-within, full-in, sub-refl}
 use Rattle.model.proofs.LeastLaws.{body-mono, least-closed, least-is}
 use Rattle.model.proofs.Support.{supported-tells, supported-is}
 use Rattle.lanes.proofs.LaneLaws.{lane-or, has-lane, sized, total-set}
-use Rattle.lanes.proofs.WordLaws.{literals-of}
 
--- ---- rules over n objective literals
+-- ---- rules as rows
 
-pub record Judged (n : ℕ) (rules : List Rule) : Type 0 where
-  pub few : n ≤ 513
-  pub head : (k : ℕ) → k < length rules → (getD rules k noRule) .head < n
-  pub body : (k : ℕ) → k < length rules → Literals n ((getD rules k noRule) .body)
+pub length-rules : (rows visits : List ℕ) → length (rulesIn rows visits) ≡ length visits
+unfolding rulesIn
+length-rules rows visits = length-map visits (ruleIn rows)
 
-pub rules-judged : (p : Program) → Valid p → Judged (judged (p .atoms)) (allRules p)
-rules-judged p v = record {
-  few = omega (arith, v .fewAtoms);
-  head = λ k h. omega (arith, head-within p v k h);
-  body = λ k h. record { below = all-each (λ l b. omega arith) (rule-fitting p v k h .body .listed) };
+-- The rule of a visit.
+pub rule-visited : (rows visits : List ℕ) (i : ℕ) → i < length visits → getD (rulesIn rows visits) i noRule ≡ ruleIn rows (getD visits i 0)
+unfolding rulesIn
+rule-visited rows visits i h = getD-map-lt (ruleIn rows) visits i noRule 0 h
+
+-- Its body as a part of the rows.
+pub body-part : (rows : List ℕ) (place size : ℕ) → size ≡ getD rows (place + 1) 0
+    → take (place + 2 + size - (place + 2)) (drop (place + 2) rows) ≡ (ruleIn rows place) .body
+unfolding ruleIn
+body-part rows place size e =
+    let n : place + 2 + size - (place + 2) ≡ getD rows (place + 1) 0 = omega arith in
+    ap (λ (k : ℕ). take k (drop (place + 2) rows)) n
+
+-- There is a word for each objective literal.
+pub rows-judged : (rows visits : List ℕ) → RulesStand rows visits → Judged 513 (rulesIn rows visits)
+rows-judged rows visits s = record {
+  few = omega arith;
+  head = λ k h.
+      let w : k < length visits = omega (arith, length-rules rows visits) in
+      rw (rule-visited rows visits k w) (s .at k w .head);
+  body = λ k h.
+      let w : k < length visits = omega (arith, length-rules rows visits) in
+      rw (rule-visited rows visits k w) (s .at k w .body);
 }
-
-pub body-few : {n : ℕ} {rules : List Rule} → Judged n rules → (k : ℕ) → k < length rules → Literals 513 ((getD rules k noRule) .body)
-body-few j k h = literals-of (j .few) (j .body k h)
-
--- Those of an accepted file are over its judged literals.
-pub file-judged : (bytes : List ℕ) (contents : Contents) → fileAnswer (readFile bytes) ≡ Accepted contents
-    → Judged (judged ((programIn bytes) .atoms)) (allRules (programIn bytes))
-file-judged bytes contents answer = rules-judged (programIn bytes) (program-valid bytes contents answer)
 
 -- ---- words and their sum
 
@@ -81,6 +79,11 @@ or-second : (a b : Bool) → (a or b) ≡ false → b ≡ false
 unfolding _or_
 or-second true b e = no-flag e
 or-second false b e = e
+
+or-absorb : (a b : Bool) → (a or (not a and b)) ≡ (a or b)
+unfolding _or_ _and_
+or-absorb true b = refl
+or-absorb false b = refl
 
 -- ---- one rule
 
@@ -123,13 +126,20 @@ module _ {r : Rule} {negated before after : List ℕ} {changed : Bool} (so : Rai
 
     -- What is in, in each lane: what was, and the head where the body holds.
     module _ (n : ℕ) (literals : Literals n (r .body)) (l : ℕ) (below : l < 64) where
+      word-in : inLane l (so .word) ≡ (not (inLane l (getD before (r .head) 0)) and bodyHolds (lane n l before) (lane n l negated) (r .body))
+      word-in =
+          so .holds .in-lane n literals l
+          ∙ ap (λ (b : Bool). b and bodyHolds (lane n l before) (lane n l negated) (r .body)) (so .others .at l below)
+
       pub raised-in : (o : ℕ)
           → inLane l (getD after o 0) ≡ (inLane l (getD before o 0) or (eqb (r .head) o and bodyHolds (lane n l before) (lane n l negated) (r .body)))
       raised-in o = elim (ℕ-discrete o (r .head)) [
         | yes e ↦
             let body = bodyHolds (lane n l before) (lane n l negated) (r .body) in
-            rw (e, raised-head, eq-eqb (r .head) (r .head) refl, true-and body, ← so .holds .in-lane n literals l below)
-            (lane-or l (getD before (r .head) 0) (so .word))
+            rw (e, raised-head, eq-eqb (r .head) (r .head) refl, true-and body)
+            (lane-or l (getD before (r .head) 0) (so .word)
+            ∙ ap (λ (b : Bool). inLane l (getD before (r .head) 0) or b) word-in
+            ∙ or-absorb (inLane l (getD before (r .head) 0)) body)
         | no ne ↦
             rw (raised-other o ne, ne-eqb (r .head) o (λ e. ne (sym e)), false-and (bodyHolds (lane n l before) (lane n l negated) (r .body)))
             (sym (or-false (inLane l (getD before o 0))))
@@ -313,9 +323,3 @@ module _ (n : ℕ) (rules : List Rule) (negated before : List ℕ) (j : Judged n
       })
       (so .inside l h (least n rules g) (record { heads = λ o m t. top .heads o m (full-in n o m) t })
       (record { at = λ o t. let k = lane-in n l o before t in top .seeds o (k .0) (full-in n o (k .0)) t }))
-
--- From the true abducible literals on it is T(j+1), by F(j).
-pub closed-true-set : {p : Program} {negated before after : List ℕ} → ClosedTrue p negated before after → (s l : ℕ) → l < 64
-    → lane (judged (p .atoms)) l before ≡ trueAbducibles p s → lane (judged (p .atoms)) l after ≡ trueSet p s (lane (judged (p .atoms)) l negated)
-unfolding trueSet trueReduct
-closed-true-set so s l h e = so .in-lane l h ∙ rw e

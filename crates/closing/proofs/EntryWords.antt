@@ -1,128 +1,182 @@
--- The word of an entry, as the loop over its 09 fields meets them.
+-- The word of an entry, as the loop over its clauses meets them.
 -- Assumes nothing.
 use mathlib.Core.Path.{_≡_, refl, sym, ap, _∙_}
-use mathlib.Core.Bool.{Bool}
-use mathlib.Core.List.{List, [], _∷_, _++_, map, append-assoc}
-use Prim.Native.Nat.{ℕ, _+_, _≤_, _<_}
+use mathlib.Core.Bool.{Bool, true, false, cond}
+use mathlib.Core.List.{List, [], _∷_, map}
+use Prim.Native.Nat.{ℕ, _+_, _-_, _*_, _≤_, _<_}
 use native.Mathlib.Omega.{arith}
-use native.Mathlib.Numerals.{add-one}
-use lib.ListN.{length, getD, drop, drop-of-length-le}
-use lib.Seq.{drop-cons}
 use lib.Bits.{bitAnd}
-use Rattle.literals.specs.Numbering.{judged}
+use lib.ListN.{length, getD, take, drop, length-append}
+use Rattle.literals.specs.Numbering.{defaultConjugate, judged}
+use Rattle.literals.proofs.Laws.{default-same-objective}
 use Rattle.papers.specs.Program.{Program, allRules}
-use Rattle.papers.specs.Field.{sizeOf}
-use Rattle.papers.specs.Encoding.{encodeNumbers, encodeField}
-use Rattle.papers.specs.Valid.{All}
-use Rattle.papers.proofs.NumberLaws.{length-encoded}
-use Rattle.papers.proofs.Sizes.{length-field}
-use Rattle.papers.proofs.Lists.{drop-after}
-use Rattle.papers.proofs.RuleLaws.{all-at}
-use Rattle.dual.specs.Table.{foldsOf, foldField, dual}
-use Rattle.dual.specs.Encoding.{encodeFields}
-use Rattle.dual.specs.Bytes.{dualOf}
+use Rattle.papers.specs.Valid.{Valid, All, none, each}
+use Rattle.papers.proofs.Lists.{all-map, first-of}
+use Rattle.papers.proofs.RuleLaws.{rule-fitting}
+use Rattle.dual.specs.Table.{foldsOf, hasEntry, dual}
 use Rattle.dual.proofs.Folds.{FoldIn, folds-of-tell}
+use Rattle.rows.specs.Rows.{clausesRow, clauseOf, clausesOf, entryRow, StandsAt}
+use Rattle.rows.proofs.StandLaws.{stands-first, stands-after, stands-front, stands-rest, stands-part}
 use Rattle.model.specs.Tests.{_and_}
-use Rattle.model.specs.Falsity.{listedBy, someHolds, foldsHold}
+use Rattle.model.specs.Sets.{Set}
+use Rattle.model.specs.Falsity.{someHolds, foldsHold, entryHolds}
+use Rattle.model.proofs.TestLaws.{true-and, and-true, false-and, and-assoc}
+use Rattle.model.proofs.Fields.{entry-dual, listed-dual}
 use Rattle.lanes.specs.Lanes.{inLane, lane}
-use Rattle.lanes.specs.Words.{Below}
-use Rattle.closing.specs.FalseWords.{listedIn, FoldStands, bytesFrom, EntriesAt, FoldsAt, SomeWord, FoldsWord}
-use Rattle.model.proofs.TestLaws.{true-and, and-true, and-assoc}
-use Rattle.lanes.proofs.LaneLaws.{lane-and, lane-full}
-use Rattle.model.proofs.Fields.{conjugates, listed-dual}
-use Rattle.closing.proofs.EntryBytes.{fold-size, fold-listed, fold-stands, conjugates-below, below-all}
+use Rattle.lanes.specs.Words.{Below, Literals}
+use Rattle.lanes.proofs.LaneLaws.{lane-and, lane-none}
+use Rattle.closing.specs.FalseWords.{EntryStands, SomeWord, EntryWord}
 
--- The word has the first i folds; the others are still to come.
-pub record EntryTo (p : Program) (bytes : List ℕ) (o : ℕ) (truth falses : List ℕ) (i place word : ℕ) : Type 0 where
-  pub stand : FoldsAt p bytes o i place
-  pub at : (l : ℕ) → l < 64
-      → (inLane l word and foldsHold (dual p) (lane (judged (p .atoms)) l truth) (lane (judged (p .atoms)) l falses) (drop i (foldsOf p o)))
-      ≡ foldsHold (dual p) (lane (judged (p .atoms)) l truth) (lane (judged (p .atoms)) l falses) (foldsOf p o)
+-- ---- an entry by its clauses
 
-module _ (p : Program) (bytes : List ℕ) (o : ℕ) (truth falses : List ℕ) where
-  pub entry-to-none : (place : ℕ) → FoldsAt p bytes o 0 place → EntryTo p bytes o truth falses 0 place 18446744073709551615
-  entry-to-none place s = record { stand = s; at = λ l h. rw (lane-full l h) (true-and _) }
+-- Each of these clauses has a literal that holds.
+unfoldable pub clausesHold : Set → Set → List (List ℕ) → Bool
+clausesHold trues set [] = true
+clausesHold trues set (clause ∷ more) = someHolds trues set clause and clausesHold trues set more
 
-  module _ (i place word : ℕ) (w : EntryTo p bytes o truth falses i place word) where
-    ended : (l : ℕ) → inLane l word ≡ (inLane l word and foldsHold (dual p) (lane (judged (p .atoms)) l truth) (lane (judged (p .atoms)) l falses) [])
-    unfolding foldsHold
-    ended l = sym (and-true (inLane l word))
+module _ (p : Program) (trues set : Set) (o : ℕ) (within : o < judged (p .atoms)) where
+  by-folds : hasEntry p o ≡ true → {folds : List ℕ} → All (FoldIn (allRules p) o) folds
+      → foldsHold (dual p) trues set folds ≡ clausesHold trues set (map (clauseOf p) folds)
+  unfolding foldsHold clausesHold
+  by-folds e none = refl
+  by-folds e (each {a} {more} f rest) =
+      rw (by-folds e rest)
+      (ap (λ (listed : List ℕ). someHolds trues set listed and clausesHold trues set (map (clauseOf p) more)) (listed-dual p o a e f within))
 
-    bare : encodeFields (map (foldField (allRules p)) []) ++ bytesFrom p (o + 1) (drop (length (dualOf p)) bytes)
-        ≡ bytesFrom p (o + 1) (drop (length (dualOf p)) bytes)
-    unfolding encodeFields
-    bare = refl
+  pub entry-clauses : entryHolds (dual p) trues set (dual p) o ≡ clausesHold trues set (clausesOf p o)
+  unfolding clausesOf clausesHold someHolds
+  entry-clauses = entry-dual (dual p) trues set p o within ∙ go (hasEntry p o) refl where
+    go : (b : Bool) → hasEntry p o ≡ b → (b and foldsHold (dual p) trues set (foldsOf p o)) ≡ clausesHold trues set (clausesOf p o)
+    go true e = true-and (foldsHold (dual p) trues set (foldsOf p o)) ∙ rw e (by-folds e (folds-of-tell p o))
+    go false e = false-and (foldsHold (dual p) trues set (foldsOf p o)) ∙ rw e (sym (false-and true))
 
-    pub entry-to-all : length (foldsOf p o) ≤ i → FoldsWord p (foldsOf p o) truth falses word × EntriesAt p bytes (o + 1) place
-    entry-to-all h =
-        let e : drop i (foldsOf p o) ≡ [] = drop-of-length-le (foldsOf p o) h in (
-          record { at = λ l k. ended l ∙ (rw e at (w .at l k)) },
-          record { valid = w .stand .valid; stands = (rw e at (w .stand .stands)) ∙ bare },
-        )
+-- Its literals are judged.
+clauses-below : (p : Program) → Valid p → (o : ℕ) → All (Literals (judged (p .atoms))) (clausesOf p o)
+unfolding clausesOf
+clauses-below p v o = go (hasEntry p o) where
+  below : (x : ℕ) → x < 4 * p .atoms → Below (judged (p .atoms)) (defaultConjugate x)
+  below x l = let e = default-same-objective x in omega arith
 
-    module _ (here : i < length (foldsOf p o)) where
-      abbrev k : ℕ
-      k = getD (foldsOf p o) i 0
+  go : (b : Bool) → All (Literals (judged (p .atoms))) (cond b (map (clauseOf p) (foldsOf p o)) ([] ∷ []))
+  go true =
+      all-map (clauseOf p)
+      (λ k f. record { below = all-map defaultConjugate below (rule-fitting p v k (f .below) .body .listed) }) (folds-of-tell p o)
+  go false = each (record { below = none }) none
 
-      fold-in : FoldIn (allRules p) o k
-      fold-in = all-at (folds-of-tell p o) i 0 here
+-- ---- the loop
 
-      one : drop i (foldsOf p o) ≡ k ∷ drop (i + 1) (foldsOf p o)
-      one = drop-cons (foldsOf p o) i 0 here ∙ rw add-one
+-- Of the lanes, each clause has a literal that holds in those of the word in which the clauses that are still to come have one.
+pub record EntryTo (p : Program) (o : ℕ) (rows truth falses : List ℕ) (lanes end at word : ℕ) : Type 0 where
+  pub rest : List (List ℕ)
+  pub below : All (Literals (judged (p .atoms))) rest
+  pub stands : StandsAt (clausesRow rest) rows at
+  pub ends : at + length (clausesRow rest) ≡ end
+  pub holds : (l : ℕ)
+      → (inLane l lanes and clausesHold (lane (judged (p .atoms)) l truth) (lane (judged (p .atoms)) l falses) (clausesOf p o))
+      ≡ (inLane l word and clausesHold (lane (judged (p .atoms)) l truth) (lane (judged (p .atoms)) l falses) rest)
 
-      abbrev one-bytes : List ℕ
-      one-bytes = encodeField 0x09 (encodeNumbers (k ∷ conjugates (allRules p) k))
+-- The clause that stands at a place.
+pub record ClauseStands (n : ℕ) (rows : List ℕ) (at : ℕ) : Type 0 where
+  pub clause : List ℕ
+  pub size : getD rows at 0 ≡ length clause
+  pub within : at + 1 + length clause ≤ length rows
+  pub part : take (length clause) (drop (at + 1) rows) ≡ clause
+  pub below : Literals n clause
 
-      abbrev rest : List ℕ
-      rest = encodeFields (map (foldField (allRules p)) (drop (i + 1) (foldsOf p o))) ++ bytesFrom p (o + 1) (drop (length (dualOf p)) bytes)
+module _ (p : Program) (rows : List ℕ) (place : ℕ) (truth falses : List ℕ) (lanes : ℕ) (s : EntryStands p rows place) where
+  abbrev o : ℕ
+  o = getD rows place 0
 
-      split : encodeFields (map (foldField (allRules p)) (k ∷ drop (i + 1) (foldsOf p o))) ++ bytesFrom p (o + 1) (drop (length (dualOf p)) bytes)
-          ≡ encodeField 0x09 (encodeNumbers (k ∷ conjugates (allRules p) k)) ++ rest
-      unfolding encodeFields foldField
-      split =
-          append-assoc (encodeField 0x09 (encodeNumbers (k ∷ conjugates (allRules p) k)))
-          (encodeFields (map (foldField (allRules p)) (drop (i + 1) (foldsOf p o)))) (bytesFrom p (o + 1) (drop (length (dualOf p)) bytes))
+  -- How many numbers its clauses take.
+  pub entry-size : getD rows (place + 1) 0 ≡ length (clausesRow (clausesOf p o))
+  unfolding entryRow
+  entry-size = stands-first (stands-after (s .stands))
 
-      field : drop place bytes ≡ encodeField 0x09 (encodeNumbers (k ∷ conjugates (allRules p) k)) ++ rest
-      field = (rw one at (w .stand .stands)) ∙ split
+  pub entry-within : place + 2 + getD rows (place + 1) 0 ≤ length rows
+  unfolding entryRow
+  entry-within = let w = s .stands .within in omega (arith, entry-size)
 
-      below : All (Below (judged (p .atoms))) (conjugates (allRules p) k)
-      below = conjugates-below p (w .stand .valid) k (fold-in .below)
+  pub entry-to-none : (end at : ℕ) → at ≡ place + 2 → end ≡ place + 2 + getD rows (place + 1) 0 → EntryTo p o rows truth falses lanes end at lanes
+  unfolding entryRow
+  entry-to-none end at e f = record {
+    rest = clausesOf p o;
+    below = clauses-below p (s .valid) o;
+    stands = let q : at ≡ place + 1 + 1 = omega arith in rw q (stands-after (stands-after (s .stands)));
+    ends = omega (arith, entry-size);
+    holds = λ l. refl;
+  }
 
-      -- The next field stands,
-      pub entry-to-stands : FoldStands (drop place bytes)
-      entry-to-stands =
-          fold-stands k (conjugates (allRules p) k) rest (drop place bytes) field
-          (below-all (judged (p .atoms)) (let v = w .stand .valid .fewAtoms in omega arith) below)
+  pub entry-to-all : (end at word : ℕ) → EntryTo p o rows truth falses lanes end at word → end ≤ at → EntryWord p o truth falses lanes word
+  unfolding clausesHold clausesRow
+  entry-to-all end at word w h = go (w .rest) (w .ends) (w .holds) where
+    go : (rest : List (List ℕ)) → at + length (clausesRow rest) ≡ end
+        → ((l : ℕ) → (inLane l lanes and clausesHold (lane (judged (p .atoms)) l truth) (lane (judged (p .atoms)) l falses) (clausesOf p o))
+        ≡ (inLane l word and clausesHold (lane (judged (p .atoms)) l truth) (lane (judged (p .atoms)) l falses) rest))
+        → EntryWord p o truth falses lanes word
+    go [] e i = record {
+      at = λ l k.
+          let trues = lane (judged (p .atoms)) l truth in
+          let set = lane (judged (p .atoms)) l falses in
+          sym (ap (λ (b : Bool). inLane l lanes and b) (entry-clauses p trues set o (s .within)) ∙ i l ∙ and-true (inLane l word));
+    }
+    go (clause ∷ more) e i = absurd (omega arith)
 
-      -- and one more fold is in the word.
-      pub entry-to-more : (next some : ℕ) → next ≡ place + 3 + sizeOf (drop place bytes) → SomeWord (listedIn (drop place bytes)) truth falses some
-          → EntryTo p bytes o truth falses (i + 1) next (bitAnd word some)
-      unfolding foldsHold
-      entry-to-more next some e s = record {
-        stand = record {
-          valid = w .stand .valid;
-          within = w .stand .within;
-          entered = w .stand .entered;
-          stands = ap (λ (j : ℕ). drop j bytes) placed ∙ drop-after place (length one-bytes) bytes one-bytes rest field refl;
-        };
-        at = λ l h.
-            let later = foldsHold (dual p) (lane (judged (p .atoms)) l truth) (lane (judged (p .atoms)) l falses) (drop (i + 1) (foldsOf p o)) in
-            ap (λ (b : Bool). b and later) (lane-and l word some)
-            ∙ and-assoc (inLane l word) (inLane l some) later
-            ∙ ap (λ (b : Bool). inLane l word and (b and later)) (held l)
-            ∙ (rw one at (w .at l h));
-      } where
-        placed : next ≡ place + length one-bytes
-        placed =
-            let a = fold-size k (conjugates (allRules p) k) rest (drop place bytes) field in
-            let b = length-field 0x09 (encodeNumbers (k ∷ conjugates (allRules p) k)) in
-            let c = length-encoded (k ∷ conjugates (allRules p) k) in
-            omega arith
+  -- Where no lane is left, none comes in.
+  pub entry-to-left : (end at word : ℕ) → EntryTo p o rows truth falses lanes end at word → word ≡ 0 → EntryWord p o truth falses lanes 0
+  entry-to-left end at word w e = record {
+    at = λ l k.
+        let trues = lane (judged (p .atoms)) l truth in
+        let set = lane (judged (p .atoms)) l falses in
+        lane-none l
+        ∙ sym (ap (λ (b : Bool). inLane l lanes and b) (entry-clauses p trues set o (s .within)) ∙ w .holds l ∙ rw (e, lane-none l) (false-and _));
+  }
 
-        held : (l : ℕ) → inLane l some ≡ someHolds (lane (judged (p .atoms)) l truth) (lane (judged (p .atoms)) l falses) (listedBy (dual p) k)
-        held l =
-            let f = fold-listed k (conjugates (allRules p) k) rest (drop place bytes) field in
-            (rw f at (s .at (judged (p .atoms)) l)) below
-            ∙ ap (someHolds (lane (judged (p .atoms)) l truth) (lane (judged (p .atoms)) l falses))
-            (sym (listed-dual p o k (w .stand .entered) fold-in (w .stand .within)))
+  module _ (end at word : ℕ) (w : EntryTo p o rows truth falses lanes end at word) (h : at < end) where
+    pub entry-to-clause : ClauseStands (judged (p .atoms)) rows at
+    unfolding clausesRow
+    entry-to-clause = go (w .rest) (w .below) (w .stands) (w .ends) where
+      go : (rest : List (List ℕ)) → All (Literals (judged (p .atoms))) rest → StandsAt (clausesRow rest) rows at → at + length (clausesRow rest) ≡ end
+          → ClauseStands (judged (p .atoms)) rows at
+      go [] b t e = absurd (omega arith)
+      go (clause ∷ more) b t e =
+          let f = stands-front clause (clausesRow more) rows (at + 1) (stands-after t) in
+          record {
+            clause = clause;
+            size = stands-first t;
+            within = f .within;
+            part = stands-part clause rows (at + 1) f;
+            below = first-of b .0;
+          }
+
+    -- One more clause is in the word.
+    pub entry-to-more : (next some : ℕ) → next ≡ at + 1 + getD rows at 0 → SomeWord (take (next - (at + 1)) (drop (at + 1) rows)) truth falses some
+        → EntryTo p o rows truth falses lanes end next (bitAnd word some)
+    unfolding clausesRow clausesHold
+    entry-to-more next some e m = go (w .rest) (w .below) (w .stands) (w .ends) (w .holds) where
+      go : (rest : List (List ℕ)) → All (Literals (judged (p .atoms))) rest → StandsAt (clausesRow rest) rows at → at + length (clausesRow rest) ≡ end
+          → ((l : ℕ) → (inLane l lanes and clausesHold (lane (judged (p .atoms)) l truth) (lane (judged (p .atoms)) l falses) (clausesOf p o))
+          ≡ (inLane l word and clausesHold (lane (judged (p .atoms)) l truth) (lane (judged (p .atoms)) l falses) rest))
+          → EntryTo p o rows truth falses lanes end next (bitAnd word some)
+      go [] b t q i = absurd (omega arith)
+      go (clause ∷ more) b t q i =
+          let size = stands-first t in
+          let a = length-append clause (clausesRow more) in
+          let f = stands-front clause (clausesRow more) rows (at + 1) (stands-after t) in
+          let n : next - (at + 1) ≡ length clause = omega arith in
+          let part : take (next - (at + 1)) (drop (at + 1) rows) ≡ clause =
+          ap (λ (k : ℕ). take k (drop (at + 1) rows)) n ∙ stands-part clause rows (at + 1) f in
+          let there : next ≡ at + 1 + length clause = omega arith in
+          record {
+            rest = more;
+            below = first-of b .1;
+            stands = rw there (stands-rest clause (clausesRow more) rows (at + 1) (stands-after t));
+            ends = omega arith;
+            holds = λ l.
+                let trues = lane (judged (p .atoms)) l truth in
+                let set = lane (judged (p .atoms)) l falses in
+                i l
+                ∙ ap (λ (x : Bool). inLane l word and (x and clausesHold trues set more))
+                (sym ((rw part at (m .at (judged (p .atoms)) l)) (first-of b .0)))
+                ∙ sym (and-assoc (inLane l word) (inLane l some) (clausesHold trues set more))
+                ∙ ap (λ (x : Bool). x and clausesHold trues set more) (sym (lane-and l word some));
+          }

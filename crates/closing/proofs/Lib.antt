@@ -1,9 +1,9 @@
 -- T in 64 lanes: a rule, a pass over the rules, and passes until one changes nothing.
 pub mod ClosingLaws
--- F in 64 lanes: the listed literals of a fold, an entry's bytes and word, a pass over the entries, and passes until one changes nothing.
-mod FoldWords
-mod EntryBytes
+pub mod RulesVisited
+-- F in 64 lanes: a clause, an entry, the entries that are visited, a pass over them, and passes until one changes nothing.
+mod ClauseWords
 mod EntryWords
-mod AnyEntry
-pub mod DroppedLaws
+mod EntriesVisited
+mod DroppedLaws
 pub mod ClosingFalse

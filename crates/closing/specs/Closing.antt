@@ -1,25 +1,53 @@
--- Closing sets of 64 lanes under the rules: a rule, a pass over the rules, and passes until one changes nothing. `negated` are the words
--- of the g whose not(g) hold.
+-- Closing sets of 64 lanes under rules that stand as rows of numbers: a rule, a pass over the rules, and passes until one changes nothing.
+-- `negated` are the words of the g whose not(g) hold.
 use mathlib.Core.Path.{_≡_}
 use mathlib.Core.Bool.{Bool, false, not}
-use mathlib.Core.List.{List}
+use mathlib.Core.List.{List, map}
 use Prim.Native.Nat.{ℕ, _+_, _≤_, _<_}
 use lib.Bits.{bitOr}
 use lib.Dec.{eqb}
-use lib.ListN.{getD, set}
-use Rattle.literals.specs.Numbering.{judged}
-use Rattle.papers.specs.Program.{Rule, Program, noRule, allRules}
+use lib.ListN.{length, getD, take, drop, set}
+use Rattle.papers.specs.Program.{Rule, noRule}
 use Rattle.model.specs.Tests.{_or_}
 use Rattle.model.specs.Sets.{full}
 use Rattle.model.specs.LeastSet.{least}
-use Rattle.lanes.specs.Lanes.{lane}
-use Rattle.lanes.specs.Words.{BodyWord, Laned}
+use Rattle.lanes.specs.Lanes.{lane, KeptFrom}
+use Rattle.lanes.specs.Words.{OtherLanes, Literals, BodyWord, Laned}
 
--- One rule: its head comes in, in the lanes in which its body holds.
+-- ---- rules as rows
+
+-- The rule whose row stands at a place: its head, how many literals its body has, and these.
+unfoldable pub ruleIn : List ℕ → ℕ → Rule
+ruleIn rows place = record { head = getD rows place 0; body = take (getD rows (place + 1) 0) (drop (place + 2) rows) }
+
+-- Those at the visited places.
+unfoldable pub rulesIn : List ℕ → List ℕ → List Rule
+rulesIn rows visits = map (ruleIn rows) visits
+
+-- A row stands there whole, and there is a word for each of its objective literals.
+pub record RuleStands (rows : List ℕ) (place : ℕ) : Type 0 where
+  pub within : place + 2 + getD rows (place + 1) 0 ≤ length rows
+  pub head : (ruleIn rows place) .head < 513
+  pub body : Literals 513 ((ruleIn rows place) .body)
+
+pub record RulesStand (rows visits : List ℕ) : Type 0 where
+  pub at : (i : ℕ) → i < length visits → RuleStands rows (getD visits i 0)
+
+-- Rules over the first n objective literals.
+pub record Judged (n : ℕ) (rules : List Rule) : Type 0 where
+  pub few : n ≤ 513
+  pub head : (k : ℕ) → k < length rules → (getD rules k noRule) .head < n
+  pub body : (k : ℕ) → k < length rules → Literals n ((getD rules k noRule) .body)
+
+-- ---- closing
+
+-- One rule: its head comes in, in the lanes in which its body holds. Those that have it already are not asked.
 pub record Raised (r : Rule) (negated before after : List ℕ) (changed : Bool) : Type 0 where
+  pub lanes : ℕ
   pub word : ℕ
   pub fits : word < 18446744073709551616
-  pub holds : BodyWord (r .body) before negated word
+  pub others : OtherLanes (getD before (r .head) 0) lanes
+  pub holds : BodyWord (r .body) before negated lanes word
   pub is : after ≡ set before (r .head) (bitOr (getD before (r .head) 0) word)
   pub told : changed ≡ not (eqb (bitOr (getD before (r .head) 0) word) (getD before (r .head) 0))
 
@@ -29,11 +57,10 @@ pub data Passed (rules : List Rule) (negated before : List ℕ) : ℕ → List �
   then : {count : ℕ} {words after : List ℕ} {changed more : Bool} → Passed rules negated before count words changed
       → Raised (getD rules count noRule) negated words after more → Passed rules negated before (count + 1) after (more or changed)
 
--- In each lane the least set that holds the seed and is closed under the rules. Past the judged literals the words stay.
-pub record ClosedTrue (p : Program) (negated before after : List ℕ) : Type 0 where
-  pub in-lane : (l : ℕ) → l < 64
-      → lane (judged (p .atoms)) l after
-      ≡ least (judged (p .atoms)) (allRules p)
-      (record { seed = lane (judged (p .atoms)) l before; allowed = full (judged (p .atoms)); negated = lane (judged (p .atoms)) l negated })
-  pub beyond : (o : ℕ) → judged (p .atoms) ≤ o → getD after o 0 ≡ getD before o 0
+-- In each lane the least set that holds the seed and is closed under the rules, of however many objective literals they speak. Past these the
+-- words stay.
+pub record ClosedTrue (rules : List Rule) (negated before after : List ℕ) : Type 0 where
+  pub in-lane : (n : ℕ) → Judged n rules → (l : ℕ) → l < 64
+      → lane n l after ≡ least n rules (record { seed = lane n l before; allowed = full n; negated = lane n l negated })
+  pub beyond : (n : ℕ) → Judged n rules → KeptFrom n before after
   pub laned : Laned after

@@ -1,3 +1,3 @@
--- Sets of 64 lanes closed: T under the rules of a file, F by the bytes of a dual.
+-- Sets of 64 lanes closed: T under the rules of a file, F by the entries of a dual.
 pub mod Closing
 pub mod FalseWords

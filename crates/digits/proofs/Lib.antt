@@ -1,4 +1,4 @@
--- One lane of a word set, the lanes of a digit, and the words of the abducible literals.
-mod BitLaws
+-- The lanes of a digit, rows of words, and the words of the abducible literals.
 mod DigitLaws
+mod RowLaws
 mod SeedLaws

@@ -8,12 +8,54 @@ ghost use Rattle.papers.specs.Reading.{programIn};
 ghost use Rattle.dual.specs.Bytes.{filled};
 ghost use Rattle.judging.specs.declared.Judged.{Judged};
 ghost use Rattle.model.specs.Model.{rounds, modelBytes, explains};
-ghost use Rattle.settling.specs.VerdictLanes.{Prepared};
+ghost use Rattle.settling.specs.VerdictLanes.{PapersStand, Prepared};
 use crate::Judged;
 use crate::values::write_values;
 use papers::Contents;
+use rows::numbers::copy_numbers;
+use rows::prepare;
 use settling::settle;
 use settling::verdicts::explained_lanes;
+
+// Over decoded papers, with room for the model.
+fn judge_decoded(
+    file: &[u8],
+    contents: Contents,
+    rules: &[u16],
+    rule_visits: &[u16],
+    entries: &[u16],
+    entry_visits: &[u16],
+    query: &[u16],
+    scenario: u32,
+    model: &mut [u8],
+) -> Judged
+    requires { ⌜ Prepared (now file) contents (now rules) (now «rule_visits») (now entries) (now «entry_visits») (now query)
+        × (judged ((programIn (now file)) .atoms) ≤ length (now model)) ⌝ }
+    ensures { λ r. ⌜ (r ≡ Judged.Verdict (explains (programIn (now (file .entry))) (now (query .entry)) scenario)
+        (rounds (programIn (now (file .entry))) scenario))
+        × (now (model .exit) ≡ filled (modelBytes (programIn (now (file .entry))) scenario) (now (model .entry))) ⌝ }
+{
+    let settled = settle(
+        file,
+        contents,
+        rules,
+        rule_visits,
+        entries,
+        entry_visits,
+        scenario as u64,
+    );
+    let trues = settled.model.t;
+    let falses = settled.model.f;
+    let rounds = settled.rounds;
+    let count = literals::judged(contents.atoms);
+    write_values(model, &trues, &falses, count);
+    let explained = explained_lanes(query, contents.atoms, &trues, &falses);
+    let first = rounds[0];
+    Judged::Verdict {
+        explains: explained % 2 == 1,
+        rounds: first,
+    }
+}
 
 // Over accepted papers, with the dual in its buffer and room for the model.
 pub(crate) fn judge_accepted(
@@ -25,20 +67,41 @@ pub(crate) fn judge_accepted(
     scenario: u32,
     model: &mut [u8],
 ) -> Judged
-    requires { ⌜ Prepared (now file) contents (now places) (now dual) (now query) × (judged ((programIn (now file)) .atoms) ≤ length (now model)) ⌝ }
+    requires { ⌜ PapersStand (now file) contents (now places) (now dual) (now query) × (judged ((programIn (now file)) .atoms) ≤ length (now model)) ⌝ }
     ensures { λ r. ⌜ (r ≡ Judged.Verdict (explains (programIn (now (file .entry))) (numbers (now (query .entry))) scenario)
         (rounds (programIn (now (file .entry))) scenario))
         × (now (model .exit) ≡ filled (modelBytes (programIn (now (file .entry))) scenario) (now (model .entry))) ⌝ }
 {
-    let settled = settle(file, contents, places, dual, scenario as u64);
-    let trues = settled.model.t;
-    let falses = settled.model.f;
-    let rounds = settled.rounds;
-    let count = literals::judged(contents.atoms);
-    write_values(model, &trues, &falses, count);
-    let explained = explained_lanes(query, contents.atoms, &trues, &falses);
-    Judged::Verdict {
-        explains: explained % 2 == 1,
-        rounds: rounds[0],
-    }
+    let mut rules = [0u16; 23040];
+    let mut rule_visits = [0u16; 1280];
+    let mut entries = [0u16; 28000];
+    let mut entry_visits = [0u16; 513];
+    let mut asked = [0u16; 16];
+    prepare(
+        file,
+        contents,
+        places,
+        dual,
+        &mut rules,
+        &mut rule_visits,
+        &mut entries,
+        &mut entry_visits,
+    );
+    copy_numbers(query, &mut asked, 0);
+    let listed = contents.rules;
+    let integrity = contents.integrity;
+    let folds = listed.count + integrity.count;
+    let judged = literals::judged(contents.atoms);
+    let size = query.len() / 2;
+    judge_decoded(
+        file,
+        contents,
+        &rules,
+        &rule_visits[0..folds],
+        &entries,
+        &entry_visits[0..judged],
+        &asked[0..size],
+        scenario,
+        model,
+    )
 }

@@ -3,21 +3,20 @@
 use mathlib.Core.Path.{_≡_, refl, sym, ap, subst, _∙_}
 use mathlib.Core.Bool.{true, false, not}
 use mathlib.Core.List.{List, [], _∷_}
-use Prim.Native.Nat.{ℕ, zero, suc, _+_, _-_, _/_, _%_, _^_, _<_, min, max}
+use Prim.Native.Nat.{ℕ, zero, suc, _+_, _-_, _/_, _%_, _^_, _≤_, _<_, min, max}
 use native.Mathlib.Decide.{ℕ-discrete}
 use native.Mathlib.Omega.{arith}
-use native.Mathlib.Nat.{zero-div, pow-suc}
+use native.Mathlib.Nat.{zero-div, pow-suc, pow-le-pow-right, div-eq-of-lt}
 use lib.Arith.{digits-mod, lt-one}
 use lib.Bits.{bitAnd, bitOr, bitXor, differ, and-shr, and-step, or-shr, or-step, xor-shr, xor-step, xor-add-and, and-mask}
 use lib.Dec.{eqb}
-use lib.ListN.{length, getD, set, replicate}
+use lib.ListN.{length, getD, set}
 use lib.Seq.{getD-set-same, getD-set-other}
-use lib.Pow.{high, low, ones-split, ones-lt, shr-shr}
-use Rattle.papers.proofs.Lists.{getD-zeros}
+use lib.Pow.{high, low, ones-split, ones-lt, shr-shr, pow-pos}
 use Rattle.model.specs.Tests.{_and_, _or_}
 use Rattle.model.specs.Sets.{has, complement, sameFlag}
-use Rattle.lanes.specs.Lanes.{inLane, lane, NoneBeyond}
-use Rattle.lanes.specs.Words.{ComplementWords, Laned, total}
+use Rattle.lanes.specs.Lanes.{inLane, lane, NoneBeyond, KeptFrom, Written}
+use Rattle.lanes.specs.Words.{otherWord, Laned, total}
 use Rattle.model.proofs.SetLaws.{length-setOf, has-setOf, length-complement, has-complement, set-ext}
 
 -- ---- a bit as a number
@@ -117,6 +116,19 @@ pub lane-none : (l : ℕ) → inLane l 0 ≡ false
 unfolding inLane
 lane-none l = ap (λ (x : ℕ). eqb (x % 2) 1) (zero-div (2 ^ l))
 
+-- The lanes of 2 ^ end - 1 are those below `end`.
+pub lane-ones : (l end : ℕ) → l < end → inLane l (2 ^ end - 1) ≡ true
+lane-ones l end h =
+    let e : end - suc l + 1 + l ≡ end = omega arith in
+    in-bit l (2 ^ end - 1) ∙ ap (λ (x : ℕ). eqb x 1) (subst (λ (n : ℕ). bit l (2 ^ n - 1) ≡ 1) e (bit-ones l (end - suc l)))
+
+pub lane-past : (l end : ℕ) → end ≤ l → inLane l (2 ^ end - 1) ≡ false
+unfolding inLane
+lane-past l end h =
+    let p : 2 ^ end ≤ 2 ^ l = pow-le-pow-right {n = 2} (omega arith) {i = end} {j = l} h in
+    let small : 2 ^ end - 1 < 2 ^ l = omega (arith, pow-pos l) in
+    ap (λ (x : ℕ). eqb (x % 2) 1) (div-eq-of-lt small)
+
 -- `!x` is what x lacks of the full word.
 pub lane-not : (l x : ℕ) → l < 64 → x < 18446744073709551616 → inLane l (18446744073709551615 - x) ≡ not (inLane l x)
 unfolding inLane bit
@@ -172,38 +184,42 @@ pub has-lane : (n l o : ℕ) (words : List ℕ) → o < n → has (lane n l word
 unfolding lane
 has-lane n l o words h = has-setOf _ n o h
 
--- ---- past the words that a loop has passed
+-- ---- the words that a loop has written
 
-pub none-zeros : NoneBeyond 0 (replicate 513 0)
-none-zeros = record { at = λ o h. getD-zeros 513 o }
+pub written-none : (word : ℕ → ℕ) (before : List ℕ) → Written 0 word before before
+written-none word before = record { at = λ o h. absurd (omega arith); beyond = record { at = λ o h. refl } }
 
-pub none-set : (o x : ℕ) (words : List ℕ) → NoneBeyond o words → NoneBeyond (o + 1) (set words o x)
-none-set o x words n = record { at = λ j h. getD-set-other words o j x 0 (λ e. absurd (omega arith)) ∙ n .at j (omega arith) }
+pub written-more : (word : ℕ → ℕ) (o : ℕ) (before after : List ℕ) → o < length after → Written o word before after
+    → Written (o + 1) word before (set after o (word o))
+written-more word o before after h w = record {
+  at = λ j k. elim (ℕ-discrete j o) [
+    | yes e ↦ rw e (getD-set-same after o (word o) 0 h)
+    | no e ↦ getD-set-other after o j (word o) 0 e ∙ w .at j (omega arith)
+  ];
+  beyond = record { at = λ j k. getD-set-other after o j (word o) 0 (λ e. absurd (omega arith)) ∙ w .beyond .at j (omega arith) };
+}
 
--- ---- the other lanes
-
-module _ (words : List ℕ) where
-  pub complement-none : ComplementWords 0 words (replicate 513 0)
-  complement-none = record { at = λ l o h k. absurd (omega arith); beyond = none-zeros }
-
-  pub complement-more : (o : ℕ) (after : List ℕ) → Laned words → o < length after → ComplementWords o words after
-      → ComplementWords (o + 1) words (set after o (18446744073709551615 - getD words o 0))
-  complement-more o after w h c = record {
-    at = λ l j k b. elim (ℕ-discrete j o) [
-      | yes e ↦ rw (e, getD-set-same after o (18446744073709551615 - getD words o 0) 0 h) (lane-not l (getD words o 0) k (w .fits o))
-      | no e ↦ rw (getD-set-other after o j (18446744073709551615 - getD words o 0) 0 e) (c .at l j k (omega arith))
-    ];
-    beyond = none-set o (18446744073709551615 - getD words o 0) after (c .beyond);
-  }
+-- No lane was set past the first n words, and none is.
+pub kept-none : {n : ℕ} {before after : List ℕ} → KeptFrom n before after → NoneBeyond n before → NoneBeyond n after
+kept-none k z = record { at = λ o h. k .at o h ∙ z .at o h }
 
 -- The first words with their other lanes are the other literals, in each lane.
-pub complement-lane : (n l : ℕ) (words after : List ℕ) → l < 64 → ComplementWords n words after → lane n l after ≡ complement n (lane n l words)
-complement-lane n l words after h c =
+pub complement-lane : (n l : ℕ) (words before after : List ℕ) → l < 64 → Laned words → Written n (otherWord words) before after
+    → lane n l after ≡ complement n (lane n l words)
+unfolding otherWord
+complement-lane n l words before after h w c =
     set-ext n (lane n l after) (complement n (lane n l words)) (sized n l after) (length-complement n (lane n l words)) (λ o k.
     has-lane n l o after k
-    ∙ c .at l o h k
+    ∙ ap (inLane l) (c .at o k)
+    ∙ lane-not l (getD words o 0) h (w .fits o)
     ∙ ap not (sym (has-lane n l o words k))
     ∙ sym (has-complement n (lane n l words) o k))
+
+-- Words that are the same from the first to the n-th are the same set, in each lane.
+pub lane-same : (n l : ℕ) (words after : List ℕ) → ((o : ℕ) → o < n → getD after o 0 ≡ getD words o 0) → lane n l after ≡ lane n l words
+lane-same n l words after e =
+    set-ext n (lane n l after) (lane n l words) (sized n l after) (sized n l words) (λ o k.
+    has-lane n l o after k ∙ ap (inLane l) (e o k) ∙ sym (has-lane n l o words k))
 
 -- ---- the sum of the words
 

@@ -1,23 +1,23 @@
 -- Laws of a literal's word and of a body's, as the code that reads them meets them.
 -- Assumes nothing.
-use mathlib.Core.Path.{_≡_, sym, _∙_}
+use mathlib.Core.Path.{_≡_, refl, sym, _∙_}
 use mathlib.Core.Bool.{Bool, true, false, cond}
 use mathlib.Core.List.{List, _∷_}
-use Prim.Native.Nat.{ℕ, _+_, _*_, _/_, _≤_, _<_}
+use Prim.Native.Nat.{ℕ, _+_, _≤_, _<_}
+use native.Mathlib.Numerals.{add-one}
 use native.Mathlib.Omega.{arith}
 use lib.Bits.{bitAnd}
-use lib.ListN.{length, getD, drop}
+use lib.ListN.{length, getD, drop, drop-of-length-le}
+use lib.Seq.{drop-cons}
 use Rattle.literals.specs.Numbering.{objectiveNumber, defaultNegated}
-use Rattle.papers.specs.Field.{numberIn, numbers}
 use Rattle.papers.proofs.Lists.{all-each, first-of}
-use Rattle.papers.proofs.Walking.{no-number, read-number}
 use Rattle.model.specs.Tests.{_and_}
 use Rattle.model.specs.Sets.{has}
 use Rattle.model.specs.LeastSet.{literalHolds, bodyHolds}
 use Rattle.lanes.specs.Lanes.{inLane, lane}
 use Rattle.lanes.specs.Words.{wordOf, Below, Literals, BodyWord}
-use Rattle.model.proofs.TestLaws.{true-and, and-true, and-assoc}
-use Rattle.lanes.proofs.LaneLaws.{lane-and, lane-full, has-lane}
+use Rattle.model.proofs.TestLaws.{false-and, and-true, and-assoc}
+use Rattle.lanes.proofs.LaneLaws.{lane-and, lane-none, has-lane}
 
 -- ---- a literal
 
@@ -40,50 +40,53 @@ word-holds n x set negated h l = go (defaultNegated x) where
 
 -- ---- a body
 
--- A walk over a body: it holds in the lanes of the word in which the literals from the i-th on hold.
-pub record WordTo (i : ℕ) (body set negated : List ℕ) (word : ℕ) : Type 0 where
-  pub rest : (n : ℕ) → Literals n (numbers body) → Literals n (numbers (drop (2 * i) body))
-  pub in-lane : (n : ℕ) → Literals n (numbers body) → (l : ℕ) → l < 64
-      → bodyHolds (lane n l set) (lane n l negated) (numbers body)
-      ≡ (inLane l word and bodyHolds (lane n l set) (lane n l negated) (numbers (drop (2 * i) body)))
+-- A walk over a body: of the lanes, it holds in those of the word in which the literals from the i-th on hold.
+pub record WordTo (i : ℕ) (body set negated : List ℕ) (lanes word : ℕ) : Type 0 where
+  pub rest : (n : ℕ) → Literals n body → Literals n (drop i body)
+  pub in-lane : (n : ℕ) → Literals n body → (l : ℕ)
+      → (inLane l lanes and bodyHolds (lane n l set) (lane n l negated) body)
+      ≡ (inLane l word and bodyHolds (lane n l set) (lane n l negated) (drop i body))
 
-literals-first : {n x : ℕ} {more : List ℕ} → Literals n (x ∷ more) → Below n x
+pub literals-first : {n x : ℕ} {more : List ℕ} → Literals n (x ∷ more) → Below n x
 literals-first h = first-of (h .below) .0
 
-literals-more : {n x : ℕ} {more : List ℕ} → Literals n (x ∷ more) → Literals n more
+pub literals-more : {n x : ℕ} {more : List ℕ} → Literals n (x ∷ more) → Literals n more
 literals-more h = record { below = first-of (h .below) .1 }
 
 -- Of n objective literals, so of more.
 pub literals-of : {n m : ℕ} {body : List ℕ} → n ≤ m → Literals n body → Literals m body
 literals-of {n} h w = record { below = all-each (λ (l : ℕ) (b : Below n l). omega arith) (w .below) }
 
-module _ (body set negated : List ℕ) where
-  pub word-starts : WordTo 0 body set negated 18446744073709551615
-  word-starts = record {
-    rest = λ n h. h;
-    in-lane = λ n h l k. sym (rw (lane-full l k) (true-and _));
-  }
+module _ (body set negated : List ℕ) (lanes : ℕ) where
+  pub word-starts : WordTo 0 body set negated lanes lanes
+  word-starts = record { rest = λ n h. h; in-lane = λ n h l. refl }
 
-  module _ (i word : ℕ) (so-far : WordTo i body set negated word) where
-    pub word-ends : length body / 2 ≤ i → BodyWord (numbers body) set negated word
+  module _ (i word : ℕ) (so-far : WordTo i body set negated lanes word) where
+    pub word-ends : length body ≤ i → BodyWord body set negated lanes word
     unfolding bodyHolds
     word-ends e = record {
-      in-lane = λ n h l k. sym (so-far .in-lane n h l k ∙ rw (no-number body i e) (and-true (inLane l word)));
+      in-lane = λ n h l. sym (so-far .in-lane n h l ∙ rw (drop-of-length-le body e) (and-true (inLane l word)));
     }
 
-    module _ (here : i < length body / 2) {x : ℕ} (is : x ≡ numberIn body (2 * i)) where
-      one : numbers (drop (2 * i) body) ≡ x ∷ numbers (drop (2 * (i + 1)) body)
-      one = read-number body i here is
+    -- Where no lane is left, none comes in.
+    pub word-left : word ≡ 0 → BodyWord body set negated lanes 0
+    word-left e = record {
+      in-lane = λ n h l. lane-none l ∙ sym (so-far .in-lane n h l ∙ rw (e, lane-none l) (false-and _));
+    }
 
-      pub literal-below : (n : ℕ) → Literals n (numbers body) → Below n x
+    module _ (here : i < length body) {x : ℕ} (is : x ≡ getD body i 0) where
+      one : drop i body ≡ x ∷ drop (i + 1) body
+      one = drop-cons body i 0 here ∙ rw (is, add-one)
+
+      pub literal-below : (n : ℕ) → Literals n body → Below n x
       literal-below n h = literals-first (rw one at (so-far .rest n h))
 
-      pub word-goes-on : WordTo (i + 1) body set negated (bitAnd word (wordOf x set negated))
+      pub word-goes-on : WordTo (i + 1) body set negated lanes (bitAnd word (wordOf x set negated))
       unfolding bodyHolds
       word-goes-on = record {
         rest = λ n h. literals-more (rw one at (so-far .rest n h));
-        in-lane = λ n h l k.
-            so-far .in-lane n h l k
+        in-lane = λ n h l.
+            so-far .in-lane n h l
             ∙ rw (one, lane-and l word (wordOf x set negated), word-holds n x set negated (literal-below n h) l)
             (sym (and-assoc (inLane l word) (literalHolds (lane n l set) (lane n l negated) x) _));
       }

@@ -2,12 +2,18 @@
 use mathlib.Core.Path.{_≡_}
 use mathlib.Core.Bool.{not, cond}
 use mathlib.Core.List.{List, [], _∷_}
-use Prim.Native.Nat.{ℕ, _+_, _<_}
+use Prim.Native.Nat.{ℕ, _+_, _-_, _<_}
+use lib.Bits.{bitOr}
 use lib.ListN.{length, getD}
 use Rattle.literals.specs.Numbering.{objectiveNumber, defaultNegated}
 use Rattle.papers.specs.Valid.{All}
 use Rattle.model.specs.LeastSet.{bodyHolds}
-use Rattle.lanes.specs.Lanes.{inLane, lane, NoneBeyond}
+use Rattle.model.specs.Tests.{_and_}
+use Rattle.lanes.specs.Lanes.{inLane, lane}
+
+-- The other lanes of a word.
+pub record OtherLanes (word other : ℕ) : Type 0 where
+  pub at : (l : ℕ) → l < 64 → inLane l other ≡ not (inLane l word)
 
 -- The lanes in which literal l holds: those of o in `set`, of not(g) those of g in `negated`.
 unfoldable pub wordOf : ℕ → List ℕ → List ℕ → ℕ
@@ -21,14 +27,23 @@ Below n l = objectiveNumber l < n
 pub record Literals (n : ℕ) (body : List ℕ) : Type 0 where
   pub below : All (Below n) body
 
--- A body's word: the lanes in which it holds, of however many objective literals it speaks.
-pub record BodyWord (body set negated : List ℕ) (word : ℕ) : Type 0 where
-  pub in-lane : (n : ℕ) → Literals n body → (l : ℕ) → l < 64 → inLane l word ≡ bodyHolds (lane n l set) (lane n l negated) body
+-- A body's word: those of the lanes in which it holds, of however many objective literals it speaks.
+pub record BodyWord (body set negated : List ℕ) (lanes word : ℕ) : Type 0 where
+  pub in-lane : (n : ℕ) → Literals n body → (l : ℕ) → inLane l word ≡ (inLane l lanes and bodyHolds (lane n l set) (lane n l negated) body)
 
--- Of the first n words of a row the other lanes; past them none.
-pub record ComplementWords (n : ℕ) (words after : List ℕ) : Type 0 where
-  pub at : (l o : ℕ) → l < 64 → o < n → inLane l (getD after o 0) ≡ not (inLane l (getD words o 0))
-  pub beyond : NoneBeyond n after
+-- ---- rows of words
+
+-- The other lanes of word o.
+unfoldable pub otherWord : List ℕ → ℕ → ℕ
+otherWord words o = 18446744073709551615 - getD words o 0
+
+-- The lanes of either.
+unfoldable pub joinedWord : List ℕ → List ℕ → ℕ → ℕ
+joinedWord first second o = bitOr (getD first o 0) (getD second o 0)
+
+-- The same word everywhere.
+unfoldable pub sameWord : ℕ → ℕ → ℕ
+sameWord word o = word
 
 -- The sum of some words: it rises with each bit that comes in, and falls with each that goes.
 unfoldable pub total : List ℕ → ℕ

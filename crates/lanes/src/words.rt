@@ -1,11 +1,10 @@
 // Sixty-four scenarios at once: bit l of word o says whether o is in the set of lane l.
 ghost use mathlib.Core.Path.{_≡_};
-ghost use Prim.Native.Nat.{_<_, _≤_};
-ghost use Rattle.papers.specs.Field.{numbers};
+ghost use Prim.Native.Nat.{_<_};
 ghost use Rattle.lanes.specs.Lanes.{inLane};
-ghost use Rattle.lanes.specs.Words.{wordOf, Below, Literals, BodyWord, ComplementWords, Laned};
+ghost use Rattle.lanes.specs.Words.{OtherLanes, wordOf, Below, Literals, BodyWord, Laned};
 use literals::Literal;
-use numbered::literal_at;
+use numbered::literal_in;
 
 // Whether lane l of a word is set.
 pub fn in_lane(word: u64, l: usize) -> bool
@@ -13,6 +12,13 @@ pub fn in_lane(word: u64, l: usize) -> bool
     ensures { λ r. ⌜ r ≡ inLane l word ⌝ }
 {
     (word >> l) % 2 == 1
+}
+
+// The other lanes of a word.
+pub fn other_lanes(word: u64) -> u64
+    ensures { λ r. ⌜ OtherLanes word r ⌝ }
+{
+    !word
 }
 
 // The lanes in which a literal holds.
@@ -29,35 +35,23 @@ pub fn word_of(l: Literal, set: &[u64; 513], negated: &[u64; 513]) -> u64
     }
 }
 
-// The lanes in which each literal of a body holds.
-pub fn body_word(body: &[u8], set: &[u64; 513], negated: &[u64; 513]) -> u64
-    requires { ⌜ Literals 513 (numbers (now body)) ⌝ }
-    ensures { λ r. ⌜ BodyWord (numbers (now (body .entry))) (now (set .entry)) (now (negated .entry)) r ⌝ }
+// The lanes of a word in which each literal of a body holds. Where none is left, the literals after are not asked.
+pub fn body_word(body: &[u16], set: &[u64; 513], negated: &[u64; 513], lanes: u64) -> u64
+    requires { ⌜ Literals 513 (now body) ⌝ }
+    ensures { λ r. ⌜ BodyWord (now (body .entry)) (now (set .entry)) (now (negated .entry)) lanes r ⌝ }
 {
-    let count = body.len() / 2;
-    let mut word: u64 = 18446744073709551615;
+    let count = body.len();
+    let mut word = lanes;
     let mut i: usize = 0;
     while i < count {
-        let l = literal_at(body, 2 * i);
+        if word == 0 {
+            return 0;
+        }
+        let l = literal_in(body, i);
         word = word & word_of(l, set, negated);
         i += 1;
     }
     word
-}
-
-// The first words of a row with their other lanes; past them none.
-pub fn complement_words(words: &[u64; 513], count: usize) -> [u64; 513]
-    requires { ⌜ count ≤ 513 ⌝ }
-    ensures { λ r. ⌜ ComplementWords count (now (words .entry)) r ⌝ }
-{
-    lent_known(words);
-    let mut after = [0u64; 513];
-    let mut o: usize = 0;
-    while o < count {
-        after[o] = !words[o];
-        o += 1;
-    }
-    after
 }
 
 // What is known of an array of words by its type, for the proofs: it computes nothing.

@@ -5,6 +5,7 @@ pub mod Chain
 pub mod Fixpoints
 pub mod LeastLaws
 pub mod Rounds
+pub mod WarmStart
 pub mod ScenarioLaws
 pub mod Fields
 pub mod Conjugates

@@ -8,13 +8,13 @@ use lib.Dec.{ltb}
 use lib.ListN.{length}
 use Rattle.papers.specs.declared.Bare.the-variants as bare
 use Rattle.papers.specs.declared.Contents.{Contents}
-use Rattle.papers.specs.Field.{numbers}
+use Rattle.papers.specs.Program.{Query}
 use Rattle.papers.specs.Outcome.{Outcome, accepted, refused}
 use Rattle.papers.specs.Reading.{programIn, Papers}
 use Rattle.papers.specs.Told.{Told, tells, refusedBy, refusedAt, bareTold, refusalTold}
 use Rattle.dual.specs.Bytes.{dualOf, filled}
 use Rattle.model.specs.Model.{rounds, explains}
-use Rattle.settling.specs.VerdictLanes.{Prepared}
+use Rattle.settling.specs.VerdictLanes.{PapersStand, Prepared}
 use Rattle.search.specs.declared.Report.{Report as CallReport}
 use Rattle.search.specs.declared.Continued.{Continued}
 use Rattle.search.specs.declared.Continued.the-variants.{Reported, ShortDual, SpoiltSearch, Refused}
@@ -92,9 +92,9 @@ recordContinued from (refusedAt number paper place) = from
 
 -- ---- for the functions behind it
 
--- The problem of an accepted file and the bytes of a query.
-abbrev pub problemIn : List ℕ → List ℕ → Problem
-problemIn file query = problemOf (record { program = programIn file; query = numbers query })
+-- The problem of an accepted file and a query.
+abbrev pub problemIn : List ℕ → Query → Problem
+problemIn file query = problemOf (record { program = programIn file; query = query })
 
 -- What is told of a call that has come so far.
 abbrev pub reportBy : ℕ → ℕ → Progress → CallReport
@@ -106,9 +106,9 @@ reportBy total w s = record {
 }
 
 -- Papers that can be judged, a search within its bounds, and room to count `count` scenarios more.
-pub record Ready (file : List ℕ) (contents : Contents) (places dual query : List ℕ) (total count : ℕ) (before : Progress) (list : List ℕ)
-    : Type 0 where
-  pub prepared : Prepared file contents places dual query
+pub record Ready (file : List ℕ) (contents : Contents) (rules rule-visits entries entry-visits query : List ℕ) (total count : ℕ) (before : Progress)
+    (list : List ℕ) : Type 0 where
+  pub prepared : Prepared file contents rules rule-visits entries entry-visits query
   pub scenarios : total ≡ 3 ^ length ((programIn file) .abducibles)
   pub kept : Kept total before list
   pub room : before .tried + count < 4294967296
@@ -116,6 +116,6 @@ pub record Ready (file : List ℕ) (contents : Contents) (places dual query : Li
 -- Papers that can be judged, and a record and a list that pass test 14.
 pub record Passed (file : List ℕ) (contents : Contents) (places dual query : List ℕ) (total : ℕ) (from : Record) (list : List ℕ)
     : Type 0 where
-  pub prepared : Prepared file contents places dual query
+  pub prepared : PapersStand file contents places dual query
   pub scenarios : total ≡ 3 ^ length ((programIn file) .abducibles)
   pub unspoilt : spoiltBy total from list ≡ false

@@ -1,11 +1,14 @@
 // A call over accepted papers: up to 64 scenarios judged at a time, and tried one by one.
 ghost use mathlib.Core.Path.{_≡_};
 ghost use Prim.Native.Nat.{_≤_};
+ghost use Rattle.papers.specs.Field.{numbers};
 ghost use Rattle.steps.specs.Continuing.{stateBy, continue};
 ghost use Rattle.stepping.specs.Stepping.{Batch, Tried};
 ghost use Rattle.search.specs.Searching.{problemIn, toldReport, reportBy, Ready, Passed};
 use crate::Report;
 use papers::Contents;
+use rows::numbers::copy_numbers;
+use rows::prepare;
 use settling::verdicts::judge_lanes;
 use stepping::Progress;
 use stepping::try_lanes;
@@ -35,18 +38,30 @@ fn batch_size(tried: u32, allowance: u32, position: u32, total: u32) -> u32
 fn try_batch(
     file: &[u8],
     contents: Contents,
-    places: &[usize; 1280],
-    dual: &[u8],
-    query: &[u8],
+    rules: &[u16],
+    rule_visits: &[u16],
+    entries: &[u16],
+    entry_visits: &[u16],
+    query: &[u16],
     list: &mut [u32],
     total: u32,
     count: u32,
     before: Progress,
 ) -> Progress
-    requires { ⌜ Ready (now file) contents (now places) (now dual) (now query) total count before (now list) × (count ≤ 64) ⌝ }
+    requires { ⌜ Ready (now file) contents (now rules) (now «rule_visits») (now entries) (now «entry_visits») (now query) total count before
+        (now list) × (count ≤ 64) ⌝ }
     ensures { λ r. ⌜ Tried (problemIn (now (file .entry)) (now (query .entry))) total count before (now (list .entry)) r (now (list .exit)) ⌝ }
 {
-    let verdicts = judge_lanes(file, contents, places, dual, query, before.position as u64);
+    let verdicts = judge_lanes(
+        file,
+        contents,
+        rules,
+        rule_visits,
+        entries,
+        entry_visits,
+        query,
+        before.position as u64,
+    );
     let explained = verdicts.explained;
     let rounds = verdicts.rounds;
     try_lanes(
@@ -64,15 +79,18 @@ fn try_batch(
 fn try_all(
     file: &[u8],
     contents: Contents,
-    places: &[usize; 1280],
-    dual: &[u8],
-    query: &[u8],
+    rules: &[u16],
+    rule_visits: &[u16],
+    entries: &[u16],
+    entry_visits: &[u16],
+    query: &[u16],
     list: &mut [u32],
     total: u32,
     allowance: u32,
     before: Progress,
 ) -> Progress
-    requires { ⌜ Ready (now file) contents (now places) (now dual) (now query) total allowance before (now list) × (before .tried ≡ 0) ⌝ }
+    requires { ⌜ Ready (now file) contents (now rules) (now «rule_visits») (now entries) (now «entry_visits») (now query) total allowance before
+        (now list) × (before .tried ≡ 0) ⌝ }
     ensures { λ r. ⌜ Tried (problemIn (now (file .entry)) (now (query .entry))) total allowance before (now (list .entry)) r (now (list .exit)) ⌝ }
 {
     let mut reached = before;
@@ -82,8 +100,10 @@ fn try_all(
         reached = try_batch(
             file,
             contents,
-            places,
-            dual,
+            rules,
+            rule_visits,
+            entries,
+            entry_visits,
             query,
             list,
             total,
@@ -127,7 +147,68 @@ fn report_of(total: u32, allowance: u32, reached: Progress) -> Report
     }
 }
 
-// A call on a record and a list that pass test 14.
+// A call on a record and a list that pass test 14: the papers are decoded, and their scenarios tried.
+fn search_decoded(
+    file: &[u8],
+    contents: Contents,
+    places: &[usize; 1280],
+    dual: &[u8],
+    query: &[u8],
+    list: &mut [u32],
+    total: u32,
+    from: Record,
+    allowance: u32,
+) -> Report
+    requires { ⌜ Passed (now file) contents (now places) (now dual) (now query) total from (now list) ⌝ }
+    ensures { λ r. ⌜
+        (r ≡ toldReport (continue (problemIn (now (file .entry)) (numbers (now (query .entry)))) allowance from (now (list .entry))))
+        × (now (list .exit) ≡ (continue (problemIn (now (file .entry)) (numbers (now (query .entry)))) allowance from (now (list .entry))) .list)
+        ⌝ }
+{
+    let mut rules = [0u16; 23040];
+    let mut rule_visits = [0u16; 1280];
+    let mut entries = [0u16; 28000];
+    let mut entry_visits = [0u16; 513];
+    let mut asked = [0u16; 16];
+    prepare(
+        file,
+        contents,
+        places,
+        dual,
+        &mut rules,
+        &mut rule_visits,
+        &mut entries,
+        &mut entry_visits,
+    );
+    copy_numbers(query, &mut asked, 0);
+    let listed = contents.rules;
+    let integrity = contents.integrity;
+    let folds = listed.count + integrity.count;
+    let judged = literals::judged(contents.atoms);
+    let size = query.len() / 2;
+    let before = Progress {
+        position: from.position,
+        found: from.found,
+        tried: 0,
+        rounds: 0,
+    };
+    let reached = try_all(
+        file,
+        contents,
+        &rules,
+        &rule_visits[0..folds],
+        &entries,
+        &entry_visits[0..judged],
+        &asked[0..size],
+        list,
+        total,
+        allowance,
+        before,
+    );
+    report_of(total, allowance, reached)
+}
+
+// The same; where nothing may be tried, nothing is decoded.
 pub(crate) fn search_accepted(
     file: &[u8],
     contents: Contents,
@@ -140,15 +221,21 @@ pub(crate) fn search_accepted(
     allowance: u32,
 ) -> Report
     requires { ⌜ Passed (now file) contents (now places) (now dual) (now query) total from (now list) ⌝ }
-    ensures { λ r. ⌜ (r ≡ toldReport (continue (problemIn (now (file .entry)) (now (query .entry))) allowance from (now (list .entry)))) × (now (list .exit) ≡ (continue (problemIn (now (file .entry)) (now (query .entry))) allowance from (now (list .entry))) .list) ⌝ }
+    ensures { λ r. ⌜
+        (r ≡ toldReport (continue (problemIn (now (file .entry)) (numbers (now (query .entry)))) allowance from (now (list .entry))))
+        × (now (list .exit) ≡ (continue (problemIn (now (file .entry)) (numbers (now (query .entry)))) allowance from (now (list .entry))) .list)
+        ⌝ }
 {
-    let before = Progress {
-        position: from.position,
-        found: from.found,
-        tried: 0,
-        rounds: 0,
-    };
-    let reached = try_all(
+    if allowance == 0 {
+        let before = Progress {
+            position: from.position,
+            found: from.found,
+            tried: 0,
+            rounds: 0,
+        };
+        return report_of(total, allowance, before);
+    }
+    search_decoded(
         file,
         contents,
         places,
@@ -156,8 +243,7 @@ pub(crate) fn search_accepted(
         query,
         list,
         total,
+        from,
         allowance,
-        before,
-    );
-    report_of(total, allowance, reached)
+    )
 }

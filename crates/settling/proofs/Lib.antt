@@ -2,3 +2,4 @@
 mod RoundLaws
 mod SettlingLaws
 pub mod VerdictLaws
+pub mod PreparedLaws

@@ -4,11 +4,11 @@ use mathlib.Core.Path.{_≡_, refl, sym, ap, subst, _∙_}
 use mathlib.Core.Bool.{Bool, true, false, not, cond, true≢false}
 use mathlib.Core.List.{List}
 use Prim.Native.Nat.{ℕ, suc, _+_, _*_, _^_, _≤_, _<_, min}
-use native.Mathlib.Decide.{decLt}
+use native.Mathlib.Decide.{decLt, ℕ-discrete}
 use native.Mathlib.Omega.{arith}
 use borrow.Author.Tests.{lt-ltb, le-ltb, ltb-true, ltb-false, eqb-true, not-false}
 use lib.Bits.{bitOr, or-lt}
-use lib.Dec.{eqb, ltb}
+use lib.Dec.{T, eqb, ltb}
 use lib.ListN.{getD, replicate}
 use Rattle.literals.specs.Numbering.{judged}
 use Rattle.papers.specs.Program.{Program}
@@ -17,13 +17,14 @@ use Rattle.model.specs.Tests.{_or_}
 use Rattle.model.specs.Sets.{Set, has, empty, complement}
 use Rattle.model.specs.Iteration.{iterate}
 use Rattle.model.specs.Model.{Interpretation, trueSet, falseSet, successor, start, interpretationAt, rounds}
-use Rattle.lanes.specs.Lanes.{inLane, lane, NoneBeyond, Changed}
+use Rattle.lanes.specs.Lanes.{inLane, lane, NoneBeyond, Changed, Written, wordAt}
 use Rattle.digits.specs.Digits.{AbducibleLanes}
-use Rattle.lanes.specs.Words.{ComplementWords}
-use Rattle.settling.specs.RoundLanes.{NextRound, MarkedLanes, SettledLanes, HeldLanes}
+use Rattle.lanes.specs.Words.{otherWord, Laned}
+use Rattle.settling.specs.RoundLanes.{NextTrue, NextFalse, MadeIf, MarkedLanes, SettledLanes, HeldLanes}
 use Rattle.model.proofs.TestLaws.{is-false}
 use Rattle.model.proofs.SetLaws.{length-empty, empty-out, set-ext}
-use Rattle.lanes.proofs.LaneLaws.{lane-or, lane-none, words-same, sized, has-lane, complement-lane}
+use Rattle.lanes.proofs.LaneLaws.{lane-or, lane-none, words-same, sized, has-lane, lane-same, kept-none, complement-lane}
+use Rattle.model.proofs.WarmStart.{true-grows}
 use Rattle.model.proofs.Rounds.{interpretation-eq, next-is, rounds-le, model-possible, model-first, model-on}
 
 module _ (p : Program) (s j : ℕ) where
@@ -54,16 +55,41 @@ module _ (p : Program) (base : ℕ) where
         ∙ lane-none l
         ∙ sym (is-false (has (empty (judged (p .atoms))) o) (empty-out (judged (p .atoms)) o)))
 
-  pub lanes-next : (j : ℕ) (trues falses t f t′ f′ : List ℕ) → AbducibleLanes p base trues falses → LanesAt j t f
-      → NextRound p trues falses t f t′ f′ → LanesAt (j + 1) t′ f′
+  -- T(j+1) by F(j), and F(j+1) by T(j).
+  pub record TrueNext (f t′ : List ℕ) : Type 0 where
+    pub at : (l : ℕ) → l < 64 → lane (judged (p .atoms)) l t′ ≡ trueSet p (base + l) (lane (judged (p .atoms)) l f)
+
+  pub record FalseNext (t f′ : List ℕ) : Type 0 where
+    pub at : (l : ℕ) → l < 64 → lane (judged (p .atoms)) l f′ ≡ falseSet p (base + l) (lane (judged (p .atoms)) l t)
+
+  -- T(j) is a part of T(j+1), from which it may so be begun.
+  grown : (j l : ℕ) (t f : List ℕ) → l < 64 → LanesAt j t f → (o : ℕ) → T (has (lane (judged (p .atoms)) l t) o)
+      → T (has (trueSet p (base + l) (lane (judged (p .atoms)) l f)) o)
+  grown j l t f h w o x = rw (w .false-in l h) (true-grows p (base + l) j .at o (rw (w .true-in l h) at x))
+
+  module _ (j moved : ℕ) (trues falses t f before after : List ℕ) (a : AbducibleLanes p base trues falses) where
+    -- Made, or as it stood.
+    pub true-made : LanesAt j t f → MadeIf moved (NextTrue p trues t f before after) before after → (moved ≡ 0 → TrueNext f before) → TrueNext f after
+    true-made w m kept = elim (ℕ-discrete moved 0) [
+      | yes e ↦ rw (m .left e) (kept e)
+      | no n ↦ record { at = λ l h. m .anew n .true-in base l falses h a (grown j l t f h w) }
+    ]
+
+    pub false-made : MadeIf moved (NextFalse p falses t before after) before after → (moved ≡ 0 → FalseNext t before) → FalseNext t after
+    false-made m kept = elim (ℕ-discrete moved 0) [
+      | yes e ↦ rw (m .left e) (kept e)
+      | no n ↦ record { at = λ l h. m .anew n .false-in base l trues h a }
+    ]
+
+  pub lanes-next : (j : ℕ) (t f t′ f′ : List ℕ) → LanesAt j t f → TrueNext f t′ → FalseNext t f′ → LanesAt (j + 1) t′ f′
   unfolding successor
-  lanes-next j trues falses t f t′ f′ a h n = record {
+  lanes-next j t f t′ f′ h x y = record {
     true-in = λ l b.
-        n .true-in base l b a
+        x .at l b
         ∙ ap (trueSet p (base + l)) (h .false-in l b)
         ∙ ap (λ (i : Interpretation). i .trues) (sym (next p (base + l) j));
     false-in = λ l b.
-        n .false-in base l b a
+        y .at l b
         ∙ ap (falseSet p (base + l)) (h .true-in l b)
         ∙ ap (λ (i : Interpretation). i .falses) (sym (next p (base + l) j));
   }
@@ -140,62 +166,93 @@ module _ (p : Program) (base : ℕ) where
       past l b = let q = still l b in omega arith
 
   -- P of the models is what F leaves.
-  pub held : {count : ℕ} {t possible f counts : List ℕ} → count ≡ judged (p .atoms) → SettledLanes p base t f counts → NoneBeyond (judged (p .atoms)) t
-      → NoneBeyond (judged (p .atoms)) f → ComplementWords count f possible → HeldLanes p base t possible f
-  held {t = t} {possible = possible} {f = f} e s x y c = record {
+  pub held : {count : ℕ} {t before possible f counts : List ℕ} → count ≡ judged (p .atoms) → SettledLanes p base t f counts
+      → NoneBeyond (judged (p .atoms)) t → NoneBeyond (judged (p .atoms)) f → Laned f → NoneBeyond (judged (p .atoms)) before
+      → Written count (otherWord f) before possible → HeldLanes p base t possible f
+  held {t = t} {before = before} {possible = possible} {f = f} e s x y w z c = record {
     possible-in = λ l h.
-        complement-lane (judged (p .atoms)) l f possible h left
+        complement-lane (judged (p .atoms)) l f before possible h w left
         ∙ ap (λ (set : Set). complement (judged (p .atoms)) set) (s .false-in l h)
         ∙ model-possible p (base + l);
     true-beyond = x;
-    possible-beyond = left .beyond;
+    possible-beyond = kept-none (left .beyond) z;
     false-beyond = y;
   }
     where
-      left : ComplementWords (judged (p .atoms)) f possible
-      left = subst (λ (m : ℕ). ComplementWords m f possible) e c
+      left : Written (judged (p .atoms)) (otherWord f) before possible
+      left = subst (λ (m : ℕ). Written m (otherWord f) before possible) e c
 
-  -- What the loop over rounds knows: the interpretation of the last round, and whether it was still changing.
-  pub record Settling (j : ℕ) (going : Bool) (t f counts : List ℕ) : Type 0 where
+  -- What the loop over rounds knows: the interpretation of the last round, whether it was still changing, and that where it left F as it was the next
+  -- T is at hand, and where it left T the next F.
+  pub record Settling (j : ℕ) (going : Bool) (t f next-t next-f : List ℕ) (moved-t moved-f : ℕ) (counts : List ℕ) : Type 0 where
     pub lanes : LanesAt j t f
     pub counted : CountedTo j counts
     pub true-beyond : NoneBeyond (judged (p .atoms)) t
     pub false-beyond : NoneBeyond (judged (p .atoms)) f
     pub goes : going ≡ true → j ≤ 2 * judged (p .atoms)
     pub rests : going ≡ false → SettledLanes p base t f counts
+    pub true-next : moved-f ≡ 0 → TrueNext f next-t
+    pub false-next : moved-t ≡ 0 → FalseNext t next-f
 
-  pub settling-start : Settling 0 true (replicate 513 0) (replicate 513 0) (replicate 64 0)
-  settling-start = record {
+  pub settling-start : {t f : List ℕ} → t ≡ replicate 513 0 → f ≡ replicate 513 0 → (next-t next-f : List ℕ)
+      → Settling 0 true t f next-t next-f 1 1 (replicate 64 0)
+  settling-start e g next-t next-f = rw (e, g) record {
     lanes = lanes-start;
     counted = counted-none;
     true-beyond = record { at = λ o h. getD-zeros 513 o };
     false-beyond = record { at = λ o h. getD-zeros 513 o };
     goes = λ e. omega arith;
     rests = λ e. absurd (true≢false e);
+    true-next = λ e. absurd (omega arith);
+    false-next = λ e. absurd (omega arith);
   }
 
-  pub settling-next : (j count w v : ℕ) (trues falses t f counts t′ f′ counts′ : List ℕ) → count ≡ judged (p .atoms) → AbducibleLanes p base trues falses
-      → Settling j true t f counts → NextRound p trues falses t f t′ f′ → Changed count t t′ w → Changed count f f′ v
-      → w < 2 ^ 64 → v < 2 ^ 64 → MarkedLanes (bitOr w v) (j + 1) counts counts′
-      → Settling (j + 1) (not (eqb (bitOr w v) 0)) t′ f′ counts′
-  settling-next j count w v trues falses t f counts t′ f′ counts′ e a s r c d k k′ m = record {
-    lanes = after;
-    counted = counted;
-    true-beyond = r .true-beyond base a;
-    false-beyond = r .false-beyond;
-    goes = λ g.
-        let few = rounds-left j (bitOr w v) (or-lt 64 w v k k′) told (λ z. absurd (true≢false (sym g ∙ ap (λ (x : ℕ). not (eqb x 0)) z))) in
-        omega arith;
-    rests = λ g. settled j (bitOr w v) t′ f′ counts′ told (eqb-true (bitOr w v) 0 (not-false (eqb (bitOr w v) 0) g)) after counted;
-  }
-    where
-      after : LanesAt (j + 1) t′ f′
-      after = lanes-next j trues falses t f t′ f′ a (s .lanes) r
+  -- A row that no lane of which has changed is the same in each lane.
+  unmoved : {t t′ : List ℕ} {w : ℕ} → Changed (judged (p .atoms)) t t′ w → w ≡ 0 → (l : ℕ) → lane (judged (p .atoms)) l t ≡ lane (judged (p .atoms)) l t′
+  unmoved c e l = c .same l (ap (inLane l) e ∙ lane-none l)
 
-      told : (l : ℕ) → l < 64 → inLane l (bitOr w v) ≡ ltb j (rounds p (base + l))
-      told l b =
-          changed-lane j t f t′ f′ w v l b (s .lanes) after (subst (λ (m : ℕ). Changed m t t′ w) e c)
-          (subst (λ (m : ℕ). Changed m f f′ v) e d)
+  module _ (j w v : ℕ) (trues falses t f next-t next-f made-t made-f t′ f′ : List ℕ) (moved-t moved-f : ℕ) (counts counts′ : List ℕ)
+      (a : AbducibleLanes p base trues falses) (s : Settling j true t f next-t next-f moved-t moved-f counts)
+      (m : MadeIf moved-f (NextTrue p trues t f next-t made-t) next-t made-t) (m′ : MadeIf moved-t (NextFalse p falses t next-f made-f) next-f made-f)
+      (c : Changed (judged (p .atoms)) t made-t w) (d : Changed (judged (p .atoms)) f made-f v)
+      (x : Written (judged (p .atoms)) (wordAt made-t) t t′) (y : Written (judged (p .atoms)) (wordAt made-f) f f′) where
+    abbrev n : ℕ
+    n = judged (p .atoms)
 
-      counted : CountedTo (j + 1) counts′
-      counted = counted-next j (bitOr w v) counts counts′ told (s .counted) m
+    true-next : TrueNext f made-t
+    true-next = true-made j moved-f trues falses t f next-t made-t a (s .lanes) m (s .true-next)
+
+    false-next : FalseNext t made-f
+    false-next = false-made j moved-t trues falses t f next-f made-f a m′ (s .false-next)
+
+    true-same : (l : ℕ) → lane n l t′ ≡ lane n l made-t
+    true-same l = lane-same n l made-t t′ (x .at)
+
+    false-same : (l : ℕ) → lane n l f′ ≡ lane n l made-f
+    false-same l = lane-same n l made-f f′ (y .at)
+
+    made : LanesAt (j + 1) made-t made-f
+    made = lanes-next j t f made-t made-f (s .lanes) true-next false-next
+
+    after : LanesAt (j + 1) t′ f′
+    after = record { true-in = λ l h. true-same l ∙ made .true-in l h; false-in = λ l h. false-same l ∙ made .false-in l h }
+
+    told : (l : ℕ) → l < 64 → inLane l (bitOr w v) ≡ ltb j (rounds p (base + l))
+    told l b = changed-lane j t f made-t made-f w v l b (s .lanes) made c d
+
+    pub settling-next : w < 2 ^ 64 → v < 2 ^ 64 → MarkedLanes (bitOr w v) (j + 1) counts counts′
+        → Settling (j + 1) (not (eqb (bitOr w v) 0)) t′ f′ made-t made-f w v counts′
+    settling-next k k′ marked =
+        let counted = counted-next j (bitOr w v) counts counts′ told (s .counted) marked in
+        record {
+          lanes = after;
+          counted = counted;
+          true-beyond = kept-none (x .beyond) (s .true-beyond);
+          false-beyond = kept-none (y .beyond) (s .false-beyond);
+          goes = λ g.
+              let few = rounds-left j (bitOr w v) (or-lt 64 w v k k′) told (λ z. absurd (true≢false (sym g ∙ ap (λ (x : ℕ). not (eqb x 0)) z))) in
+              omega arith;
+          rests = λ g. settled j (bitOr w v) t′ f′ counts′ told (eqb-true (bitOr w v) 0 (not-false (eqb (bitOr w v) 0) g)) after counted;
+          true-next = λ e. record { at = λ l h. true-next .at l h ∙ ap (trueSet p (base + l)) (unmoved d e l ∙ sym (false-same l)) };
+          false-next = λ e. record { at = λ l h. false-next .at l h ∙ ap (falseSet p (base + l)) (unmoved c e l ∙ sym (true-same l)) };
+        }

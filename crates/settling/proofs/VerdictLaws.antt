@@ -1,9 +1,9 @@
 -- The lanes that are explanations, by the models.
 -- Assumes nothing.
 use mathlib.Core.Path.{_≡_, sym, ap, ap₂, _∙_}
-use mathlib.Core.Bool.{not}
+use mathlib.Core.Bool.{Bool, not}
 use mathlib.Core.List.{List}
-use Prim.Native.Nat.{ℕ, _+_, _-_}
+use Prim.Native.Nat.{ℕ, _+_}
 use native.Mathlib.Omega.{arith}
 use lib.Bits.{bitAnd}
 use lib.ListN.{getD}
@@ -13,25 +13,21 @@ use Rattle.papers.specs.Valid.{ValidBody}
 use Rattle.papers.proofs.Lists.{all-each}
 use Rattle.model.specs.Tests.{_and_}
 use Rattle.model.specs.Sets.{has}
+use Rattle.model.specs.LeastSet.{bodyHolds}
 use Rattle.lanes.specs.Lanes.{inLane, lane}
-use Rattle.lanes.specs.Words.{Literals, BodyWord, Laned}
+use Rattle.lanes.specs.Words.{OtherLanes, Literals, BodyWord}
 use Rattle.settling.specs.RoundLanes.{SettledLanes}
 use Rattle.settling.specs.VerdictLanes.{ExplainedWord, VerdictLanes}
-use Rattle.lanes.proofs.LaneLaws.{lane-and, lane-not, has-lane}
+use Rattle.lanes.proofs.LaneLaws.{lane-and, has-lane}
 use Rattle.model.proofs.ByteLaws.{explains-is}
 
-pub explained-word : (n o : ℕ) (query trues falses : List ℕ) (w : ℕ) → o ≡ falsum n → Literals (judged n) query → Laned trues
-    → BodyWord query trues falses w
-    → ExplainedWord n query trues falses (bitAnd (bitAnd (18446744073709551615 - getD trues o 0) (getD falses o 0)) w)
-explained-word n o query trues falses w e q k b = record {
+pub explained-word : (n o : ℕ) (query trues falses : List ℕ) (other w : ℕ) → o ≡ falsum n → Literals (judged n) query
+    → OtherLanes (getD trues o 0) other → BodyWord query trues falses (bitAnd other (getD falses o 0)) w → ExplainedWord n query trues falses w
+explained-word n o query trues falses other w e q k b = record {
   at = λ l h.
-      lane-and l (bitAnd (18446744073709551615 - getD trues o 0) (getD falses o 0)) w
-      ∙ ap₂ _and_
-      (lane-and l (18446744073709551615 - getD trues o 0) (getD falses o 0)
-      ∙ ap₂ _and_
-      (lane-not l (getD trues o 0) h (k .fits o) ∙ ap not (there l trues))
-      (there l falses))
-      (b .in-lane (judged n) q l h);
+      b .in-lane (judged n) q l
+      ∙ ap (λ (x : Bool). x and bodyHolds (lane (judged n) l trues) (lane (judged n) l falses) query)
+      (lane-and l other (getD falses o 0) ∙ ap₂ _and_ (k .at l h ∙ ap not (there l trues)) (there l falses));
 }
   where
     there : (l : ℕ) (words : List ℕ) → inLane l (getD words o 0) ≡ has (lane (judged n) l words) (falsum n)

@@ -3,21 +3,45 @@ use mathlib.Core.Path.{_≡_}
 use mathlib.Core.Bool.{cond}
 use mathlib.Core.List.{List}
 use Prim.Native.Nat.{ℕ, _+_, _<_}
+use lib.Dec.{T}
 use lib.ListN.{getD}
 use Rattle.literals.specs.Numbering.{judged}
 use Rattle.papers.specs.Program.{Program}
+use Rattle.papers.specs.Valid.{Valid}
+use Rattle.model.specs.Sets.{has}
 use Rattle.model.specs.Model.{trueSet, possibleSet, falseSet, rounds, model}
-use Rattle.lanes.specs.Lanes.{inLane, lane, NoneBeyond}
+use Rattle.rows.specs.Rows.{ruleRows, Stand}
+use Rattle.closing.specs.FalseWords.{EntriesStand}
+use Rattle.lanes.specs.Lanes.{inLane, lane, NoneBeyond, KeptFrom}
 use Rattle.digits.specs.Digits.{AbducibleLanes}
 
--- (T(j+1), F(j+1)) from (T(j), F(j)) in each lane; past the judged literals none.
-pub record NextRound (p : Program) (trues falses t f t′ f′ : List ℕ) : Type 0 where
-  pub true-in : (base l : ℕ) → l < 64 → AbducibleLanes p base trues falses
-      → lane (judged (p .atoms)) l t′ ≡ trueSet p (base + l) (lane (judged (p .atoms)) l f)
-  pub false-in : (base l : ℕ) → l < 64 → AbducibleLanes p base trues falses
-      → lane (judged (p .atoms)) l f′ ≡ falseSet p (base + l) (lane (judged (p .atoms)) l t)
-  pub true-beyond : (base : ℕ) → AbducibleLanes p base trues falses → NoneBeyond (judged (p .atoms)) t′
-  pub false-beyond : NoneBeyond (judged (p .atoms)) f′
+-- The rules of a valid program stand as rows of numbers at the visited places,
+pub record RulesIn (p : Program) (rules visits : List ℕ) : Type 0 where
+  pub valid : Valid p
+  pub stand : Stand (ruleRows p) rules visits
+
+-- and its dual too.
+pub record Decoded (p : Program) (rules rule-visits entries entry-visits : List ℕ) : Type 0 where
+  pub rules-in : RulesIn p rules rule-visits
+  pub entries-in : EntriesStand p entries entry-visits
+
+-- T(j+1) by F(j) in each lane, begun from what is true already: T(j), as long as it is a part of T(j+1).
+pub record NextTrue (p : Program) (trues t f before after : List ℕ) : Type 0 where
+  pub true-in : (base l : ℕ) (falses : List ℕ) → l < 64 → AbducibleLanes p base trues falses
+      → ((o : ℕ) → T (has (lane (judged (p .atoms)) l t) o) → T (has (trueSet p (base + l) (lane (judged (p .atoms)) l f)) o))
+      → lane (judged (p .atoms)) l after ≡ trueSet p (base + l) (lane (judged (p .atoms)) l f)
+  pub beyond : KeptFrom (judged (p .atoms)) before after
+
+-- F(j+1) by T(j) in each lane.
+pub record NextFalse (p : Program) (falses t before after : List ℕ) : Type 0 where
+  pub false-in : (base l : ℕ) (trues : List ℕ) → l < 64 → AbducibleLanes p base trues falses
+      → lane (judged (p .atoms)) l after ≡ falseSet p (base + l) (lane (judged (p .atoms)) l t)
+  pub beyond : KeptFrom (judged (p .atoms)) before after
+
+-- Made anew where something has moved in some lane, else left as it is.
+pub record MadeIf (moved : ℕ) (made : Type 0) (before after : List ℕ) : Type 0 where
+  pub anew : (moved ≡ 0 → ⊥) → made
+  pub left : moved ≡ 0 → after ≡ before
 
 -- A number in the lanes of a word, the others as they were.
 pub record MarkedLanes (word number : ℕ) (before after : List ℕ) : Type 0 where

@@ -4,19 +4,24 @@ pub mod verdicts;
 ghost use mathlib.Core.Path.{_≡_};
 ghost use mathlib.Core.Bool.{cond};
 ghost use Prim.Native.Nat.{_<_};
-ghost use Rattle.papers.specs.Reading.{programIn};
-ghost use Rattle.papers.specs.Places.{Walked};
-ghost use Rattle.closing.specs.FalseWords.{DualStarts};
-ghost use Rattle.lanes.specs.Lanes.{inLane};
-ghost use Rattle.settling.specs.RoundLanes.{NextRound, MarkedLanes, SettledLanes, HeldLanes};
+ghost use lib.ListN.{replicate};
+ghost use Rattle.literals.specs.Numbering.{judged};
+ghost use Rattle.papers.specs.declared.FileRead.{FileRead};
+ghost use Rattle.papers.specs.Reading.{readFile, programIn};
+ghost use Rattle.papers.specs.Answers.{fileAnswer};
+ghost use Rattle.closing.specs.FalseWords.{EntriesStand};
+ghost use Rattle.lanes.specs.Lanes.{inLane, NoneBeyond};
+ghost use Rattle.settling.specs.RoundLanes.{Decoded, RulesIn, NextTrue, NextFalse, MadeIf, MarkedLanes, SettledLanes, HeldLanes};
 use closing::falsity::close_false;
 use closing::truth::close_true;
 use digits::abducible_lanes;
-use lanes::backing::backing_words;
-use lanes::changes::changed_lanes;
-use lanes::words::complement_words;
 use lanes::words::in_lane;
+use lanes::words::lent_known;
 use papers::Contents;
+use sets::backing::backing_words;
+use sets::changes::replace_words;
+use sets::complement_words;
+use sets::join_words;
 
 // The model's sets in 64 scenarios, a word for each judged literal. P is made once, where T and F stand: it is what F leaves.
 pub struct Model {
@@ -25,34 +30,50 @@ pub struct Model {
     pub f: [u64; 513],
 }
 
-// (Tj, Fj) in 64 scenarios.
-struct Pair {
-    pub t: [u64; 513],
-    pub f: [u64; 513],
+// T(j+1) from the rules and F(j), begun from T(j); where F has not moved it stands already.
+fn next_true(
+    file: &[u8],
+    rules: &[u16],
+    visits: &[u16],
+    count: usize,
+    trues: &[u64; 513],
+    held: &[u64; 513],
+    failed: &[u64; 513],
+    moved: u64,
+    next: &mut [u64; 513],
+)
+    requires { ⌜ RulesIn (programIn (now file)) (now rules) (now visits) × (count ≡ judged ((programIn (now file)) .atoms)) ⌝ }
+    ensures { λ _. ⌜ MadeIf moved (NextTrue (programIn (now (file .entry))) (now (trues .entry)) (now (held .entry)) (now (failed .entry))
+        (now (next .entry)) (now (next .exit))) (now (next .entry)) (now (next .exit)) ⌝ }
+{
+    if moved == 0 {
+        return;
+    }
+    join_words(trues, held, count, next);
+    close_true(rules, visits, next, failed);
 }
 
-// The next round: T from the file's rules and F(j), F from the dual and T(j).
-fn next_round<'a>(
+// F(j+1) from the dual and T(j); where T has not moved it stands already.
+fn next_false(
     file: &[u8],
-    contents: Contents,
-    places: &[usize; 1280],
-    dual: &[u8],
-    trues: &[u64; 513],
+    entries: &[u16],
+    visits: &[u16],
+    atoms: u16,
     falses: &[u64; 513],
-    held: &'a [u64; 513],
-    failed: &'a [u64; 513],
-) -> Pair
-    requires { ⌜ Walked (now file) contents (now places) × DualStarts (programIn (now file)) (now dual) ⌝ }
-    ensures { λ r. ⌜ NextRound (programIn (now (file .entry))) (now (trues .entry)) (now (falses .entry)) (now (held .entry)) (now (failed .entry))
-        (r .t) (r .f) ⌝ }
+    held: &[u64; 513],
+    moved: u64,
+    backing: &mut [u64; 513],
+    next: &mut [u64; 513],
+)
+    requires { ⌜ EntriesStand (programIn (now file)) (now entries) (now visits) × (atoms ≡ (programIn (now file)) .atoms) ⌝ }
+    ensures { λ _. ⌜ MadeIf moved (NextFalse (programIn (now (file .entry))) (now (falses .entry)) (now (held .entry))
+        (now (next .entry)) (now (next .exit))) (now (next .entry)) (now (next .exit)) ⌝ }
 {
-    let mut t = *trues;
-    close_true(file, contents, places, &mut t, failed);
-    let backing = backing_words(held, falses, contents.atoms);
-    let count = literals::judged(contents.atoms);
-    let mut f = [0u64; 513];
-    close_false(file, dual, count, held, &backing, &mut f);
-    Pair { t, f }
+    if moved == 0 {
+        return;
+    }
+    backing_words(held, falses, atoms, backing);
+    close_false(file, entries, visits, held, backing, next);
 }
 
 // One of two numbers, by a lane of a word.
@@ -76,57 +97,110 @@ fn mark_lanes(word: u64, number: u64, before: [u64; 64]) -> [u64; 64]
     marked
 }
 
+// From J0, round after round until one changes no lane: T and F into two rows that are clear. The round count of each lane, which is the last
+// round that changed it.
+pub fn settle_words(
+    file: &[u8],
+    contents: Contents,
+    rules: &[u16],
+    rule_visits: &[u16],
+    entries: &[u16],
+    entry_visits: &[u16],
+    base: u64,
+    t: &mut [u64; 513],
+    f: &mut [u64; 513],
+) -> [u64; 64]
+    requires { ⌜ (fileAnswer (readFile (now file)) ≡ FileRead.Accepted contents)
+        × (Decoded (programIn (now file)) (now rules) (now «rule_visits») (now entries) (now «entry_visits») × ((base < 4294967296)
+        × ((now t ≡ replicate 513 0) × (now f ≡ replicate 513 0)))) ⌝ }
+    ensures { λ r. ⌜ SettledLanes (programIn (now (file .entry))) base (now (t .exit)) (now (f .exit)) r
+        × (NoneBeyond (judged ((programIn (now (file .entry))) .atoms)) (now (t .exit))
+        × NoneBeyond (judged ((programIn (now (file .entry))) .atoms)) (now (f .exit))) ⌝ }
+{
+    let count = literals::judged(contents.atoms);
+    let mut trues = [0u64; 513];
+    let mut falses = [0u64; 513];
+    abducible_lanes(file, contents, base, &mut trues, &mut falses);
+    let mut backing = [0u64; 513];
+    let mut next_t = [0u64; 513];
+    let mut next_f = [0u64; 513];
+    let mut moved_t: u64 = 1;
+    let mut moved_f: u64 = 1;
+    let mut rounds = [0u64; 64];
+    let mut round: u64 = 0;
+    let mut going = true;
+    while going {
+        next_true(
+            file,
+            rules,
+            rule_visits,
+            count,
+            &trues,
+            t,
+            f,
+            moved_f,
+            &mut next_t,
+        );
+        next_false(
+            file,
+            entries,
+            entry_visits,
+            contents.atoms,
+            &falses,
+            t,
+            moved_t,
+            &mut backing,
+            &mut next_f,
+        );
+        moved_t = replace_words(t, &next_t, count);
+        moved_f = replace_words(f, &next_f, count);
+        let changed = moved_t | moved_f;
+        round += 1;
+        let marked = mark_lanes(changed, round, rounds);
+        rounds = marked;
+        going = changed != 0;
+    }
+    rounds
+}
+
 // The models of 64 scenarios, and the round count of each.
 pub struct Settled {
     pub model: Model,
     pub rounds: [u64; 64],
 }
 
-// From J0, round after round until one changes no lane. A lane's round count is the last round that changed it.
 pub fn settle(
     file: &[u8],
     contents: Contents,
-    places: &[usize; 1280],
-    dual: &[u8],
+    rules: &[u16],
+    rule_visits: &[u16],
+    entries: &[u16],
+    entry_visits: &[u16],
     base: u64,
 ) -> Settled
-    requires { ⌜ Walked (now file) contents (now places) × (DualStarts (programIn (now file)) (now dual) × (base < 4294967296)) ⌝ }
+    requires { ⌜ (fileAnswer (readFile (now file)) ≡ FileRead.Accepted contents)
+        × (Decoded (programIn (now file)) (now rules) (now «rule_visits») (now entries) (now «entry_visits») × (base < 4294967296)) ⌝ }
     ensures { λ r. ⌜ SettledLanes (programIn (now (file .entry))) base (r .model .t) (r .model .f) (r .rounds)
         × HeldLanes (programIn (now (file .entry))) base (r .model .t) (r .model .p) (r .model .f) ⌝ }
 {
-    let seeds = abducible_lanes(file, contents, base);
-    let trues = seeds.trues;
-    let falses = seeds.falses;
-    let count = literals::judged(contents.atoms);
-    let mut model = Model {
-        t: [0; 513],
-        p: [0; 513],
-        f: [0; 513],
-    };
-    let mut rounds = [0u64; 64];
-    let mut round: u64 = 0;
-    let mut going = true;
-    while going {
-        let next = next_round(
-            file,
-            contents,
-            places,
-            dual,
-            &trues,
-            &falses,
-            &model.t,
-            &model.f,
-        );
-        let changed = changed_lanes(&model.t, &next.t, count)
-            | changed_lanes(&model.f, &next.f, count);
-        round += 1;
-        let marked = mark_lanes(changed, round, rounds);
-        rounds = marked;
-        model.t = next.t;
-        model.f = next.f;
-        going = changed != 0;
+    let mut t = [0u64; 513];
+    let mut f = [0u64; 513];
+    let rounds = settle_words(
+        file,
+        contents,
+        rules,
+        rule_visits,
+        entries,
+        entry_visits,
+        base,
+        &mut t,
+        &mut f,
+    );
+    lent_known(&f);
+    let mut p = [0u64; 513];
+    complement_words(&f, literals::judged(contents.atoms), &mut p);
+    Settled {
+        model: Model { t, p, f },
+        rounds,
     }
-    let possible = complement_words(&model.f, count);
-    model.p = possible;
-    Settled { model, rounds }
 }

@@ -1,47 +1,61 @@
--- `digits::digit_lanes` meets its contract. The loop's invariant: the lanes passed are set by their digit.
+-- `digits::digit_lanes` meets its contract. The loop's invariant: the lanes passed are set by their digits, and a run begins here.
 -- Assumes nothing.
 use borrow.Author.Needs.{needs}
-use Prim.Native.Nat.{_-_, _≤_}
+use Prim.Native.Nat.{_-_}
+use native.Mathlib.Nat.{mod-lt}
 use native.Mathlib.Omega.{arith}
-use Rattle.digits.proofs.DigitLaws.{Laned, laned-none, laned-more, laned-all}
+use Rattle.digits.proofs.DigitLaws.{Digits, digits-none, digits-small, digits-more, digits-all}
 use Rattle.digits.proofs.digit_lanes.Statement.{statement}
 use Rattle.digits.proofs.digit_lanes.Tie as tie
 
 abbrev Inv-loop : tie.InvT-loop
-Inv-loop base power digit word₀ lane₀ word lane = (lane ≤ 64) × Laned base power digit word lane
+Inv-loop base power assumed₀ ruled₀ digit₀ left₀ lane₀ assumed ruled digit left lane = Digits base power lane digit left assumed ruled
 
 abbrev μ-loop : tie.MeasureT-loop
-μ-loop base power digit word₀ lane₀ word lane = 64 - lane
+μ-loop base power assumed₀ ruled₀ digit₀ left₀ lane₀ assumed ruled digit left lane = 64 - lane
+
+div-digit : tie.Need-div-digit Inv-loop μ-loop
+div-digit c = search needs
+
+rem-left : tie.Need-rem-left Inv-loop μ-loop
+rem-left c = search needs
+
+sub-left : tie.Need-sub-left Inv-loop μ-loop
+sub-left c = omega (arith, mod-lt (c .args .base) (c .pre .0))
 
 loop-holds : tie.Need-loop-holds Inv-loop μ-loop
-loop-holds c = let a = c .args in (omega arith, laned-none (a .base) (a .power) (a .digit))
+loop-holds c = digits-none (c .args .base) (c .args .power) (c .pre .0)
 
-add-at : tie.Need-add-at Inv-loop μ-loop
-add-at c = search needs
+add-run-lanes : tie.Need-add-run-lanes Inv-loop μ-loop
+add-run-lanes c = omega arith
 
-div-at : tie.Need-div-at Inv-loop μ-loop
-div-at c = search needs
+run-lanes-requires : tie.Need-run-lanes-requires Inv-loop μ-loop
+run-lanes-requires c κs = search needs
 
-lane-if-requires : tie.Need-lane-if-requires Inv-loop μ-loop
-lane-if-requires c κs = search needs
+joined-if-requires : tie.Need-joined-if-requires Inv-loop μ-loop
+joined-if-requires c κs = search needs
+
+joined-if-requires-2 : tie.Need-joined-if-requires-2 Inv-loop μ-loop
+joined-if-requires-2 c κs = search needs
+
+next-digit-requires : tie.Need-next-digit-requires Inv-loop μ-loop
+next-digit-requires c κs = digits-small (c .before .before .before .before .loop .inv)
 
 add-lane : tie.Need-add-lane Inv-loop μ-loop
-add-lane c = search needs
+add-lane c = omega arith
 
 loop-less : tie.Need-loop-less Inv-loop μ-loop
-loop-less c = search needs
+loop-less c = omega arith
 
 loop-again : tie.Need-loop-again Inv-loop μ-loop
 loop-again c =
-    let a = c .before .before .before .args in
-    let l = c .before .before .loop in
-    (omega arith, laned-more (a .base) (a .power) (a .digit) (l .word) (l .lane) _ (l .inv .1) (c .lane-if .ensures))
+    let joined = c .before .before in
+    let run = joined .before in
+    digits-more (run .before .before .loop .inv) (run .run-lanes .ensures) (joined .joined-if .ensures) (c .before .joined-if2 .ensures)
+    (c .next-digit .ensures)
 
 returns : tie.Need-returns Inv-loop μ-loop
-returns c =
-    let a = c .before .before .args in
-    let l = c .before .loop in
-    laned-all (a .base) (a .power) (a .digit) (l .word) (l .lane) (c .loop-test .left) (l .inv .1)
+returns c = digits-all (c .before .loop .inv) (c .loop-test .left)
 
 pub digit-lanes-spec : {M : Type 1} → statement M
 digit-lanes-spec =
@@ -49,10 +63,15 @@ digit-lanes-spec =
     (tie.spec
     Inv-loop
     μ-loop
+    div-digit
+    rem-left
+    sub-left
     loop-holds
-    add-at
-    div-at
-    lane-if-requires
+    add-run-lanes
+    run-lanes-requires
+    joined-if-requires
+    joined-if-requires-2
+    next-digit-requires
     add-lane
     loop-less
     loop-again

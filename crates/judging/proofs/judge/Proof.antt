@@ -23,8 +23,8 @@ use Rattle.papers.proofs.ToldLaws.{papers-told}
 use Rattle.dual.specs.Bytes.{dualOf, filled}
 use Rattle.dual_writer.proofs.BothPapers.{papersIn, both-read, both-asked, few-abducibles, few-literals, scenarios-are}
 use Rattle.dual_writer.proofs.BothPapers.{other-told, dual-fits, dual-short, dual-stays, dual-kept, dual-filled}
-use Rattle.closing.specs.FalseWords.{DualStarts}
-use Rattle.closing.proofs.DroppedLaws.{filled-starts}
+use Rattle.rows.specs.DualBytes.{DualStarts}
+use Rattle.rows.proofs.EntryBytes.{filled-starts}
 use Rattle.judging.specs.Judging.{scenarioCount}
 use Rattle.judging.proofs.JudgingLaws.{judged-refused, judged-short, judged-small, judged-past, judged-done}
 use Rattle.judging.proofs.judge.Statement.{statement}

@@ -12,8 +12,8 @@ use Rattle.papers.proofs.FileFacts.{told, program-valid}
 use Rattle.papers.proofs.PapersAnswers.{BothTold, both-told}
 use Rattle.dual_writer.proofs.BothPapers.{papersIn, both-read, both-asked, few-abducibles, few-literals, scenarios-are}
 use Rattle.dual_writer.proofs.BothPapers.{other-told, dual-fits, dual-short, dual-stays, dual-kept, dual-filled}
-use Rattle.closing.specs.FalseWords.{DualStarts}
-use Rattle.closing.proofs.DroppedLaws.{filled-starts}
+use Rattle.rows.specs.DualBytes.{DualStarts}
+use Rattle.rows.proofs.EntryBytes.{filled-starts}
 use Rattle.steps.specs.Spoilt.{spoilt}
 use Rattle.search.specs.Searching.{problemOf}
 use Rattle.search.proofs.AnswerLaws.{spoilt-is, answers-short, answers-spoilt, answers-report}

@@ -1,95 +1,86 @@
--- `closing::falsity::drop_pass` meets its contract. The loop's invariant: what dropping the first i objective literals has done, and the entries from i on
--- stand at the place.
+-- `closing::falsity::drop_pass` meets its contract. The loop's invariant: what dropping the objective literals visited has done.
 -- Assumes nothing.
-use native.Mathlib.Omega.{arith}
-use mathlib.Core.Path.{_≡_}
+use borrow.Author.Needs.{needs}
+use mathlib.Core.Path.{_≡_, refl}
 use mathlib.Core.Logic.{⊎-elim}
-use Prim.Native.Nat.{_≤_, _<_, _-_}
+use Prim.Native.Nat.{_≤_, _-_}
+use native.Mathlib.Omega.{arith}
 use denote.Ref.{now}
-use Rattle.literals.specs.Numbering.{judged}
+use lib.ListN.{length}
 use Rattle.papers.specs.Reading.{programIn}
-use Rattle.closing.specs.FalseWords.{EntriesAt, DroppedTo}
-use Rattle.closing.proofs.DroppedLaws.{starts-at, dropped-none, dropped-less, dropped-same}
+use Rattle.closing.specs.FalseWords.{objectiveIn, Dropped, DroppedTo}
+use Rattle.closing.proofs.EntriesVisited.{entry-visited, objective-within}
+use Rattle.closing.proofs.DroppedLaws.{dropped-none, dropped-less, dropped-same}
 use Rattle.closing.proofs.falsity.drop_pass.Statement.{statement}
 use Rattle.closing.proofs.falsity.drop_pass.Tie as tie
 
 abbrev Inv-loop : tie.InvT-loop
-Inv-loop file dual count truth backing falses₀ changed₀ place₀ i₀ falses changed place i =
-    (i ≤ count) × (EntriesAt (programIn file) dual i place × DroppedTo i (programIn file) truth backing falses₀ falses changed)
+Inv-loop file rows visits truth backing falses₀ count changed₀ i₀ falses changed i =
+    (i ≤ count) × ((count ≡ length visits) × DroppedTo (objectiveIn rows visits) i (programIn file) truth backing falses₀ falses changed)
 
 abbrev μ-loop : tie.MeasureT-loop
-μ-loop file dual count truth backing falses₀ changed₀ place₀ i₀ falses changed place i = count - i
-
--- There is a word for each objective literal.
-few : (c : tie.In-loop Inv-loop μ-loop) → c .before .loop .i < 513
-few c = let v = c .before .before .before .before .pre .0 .valid .fewAtoms in omega (arith, c .before .before .before .before .pre .1 .0)
+μ-loop file rows visits truth backing falses₀ count changed₀ i₀ falses changed i = count - i
 
 loop-holds : tie.Need-loop-holds Inv-loop μ-loop
 loop-holds c =
-    let a = c .before .before .args in (
+    let s = c .before .before .before in
+    let a = s .args in (
       omega arith,
       (
-        starts-at (programIn (now (a .file))) (now (a .dual)) (c .before .before .pre .0),
-        dropped-none (programIn (now (a .file))) (now (a .truth)) (now (a .backing)) (now (a .falses)) (c .before .before .pre .1 .1),
+        refl,
+        dropped-none (programIn (now (a .file))) (now (a .truth)) (now (a .backing)) (now (a .falses)) (objectiveIn (now (a .rows)) (now (a .visits)))
+            (s .pre .1),
       ),
     )
 
-any-entry-word-requires : tie.Need-any-entry-word-requires Inv-loop μ-loop
-any-entry-word-requires c κs = (c .before .before .loop .inv .1 .0, omega (arith, c .before .before .before .before .before .pre .1 .0))
+number-in-requires : tie.Need-number-in-requires Inv-loop μ-loop
+number-in-requires c κs = search needs
 
-mul-old : tie.Need-mul-old Inv-loop μ-loop
-mul-old c = omega (arith, few (c .before .before))
-
-element-copy-out-old : tie.Need-element-copy-out-old Inv-loop μ-loop
-element-copy-out-old c = few (c .before .before)
-
-mul-new : tie.Need-mul-new Inv-loop μ-loop
-mul-new c = omega (arith, few (c .before .before .before))
-
-element-copy-out-new : tie.Need-element-copy-out-new Inv-loop μ-loop
-element-copy-out-new c = few (c .before .before .before)
-
-mul-falses : tie.Need-mul-falses Inv-loop μ-loop
-mul-falses c = omega (arith, few (c .before .before .before .before .before))
-
-element-write-falses : tie.Need-element-write-falses Inv-loop μ-loop
-element-write-falses c = few (c .before .before .before .before .before)
+drop-entry-requires : tie.Need-drop-entry-requires Inv-loop μ-loop
+drop-entry-requires c κs =
+    let s = c .before .before .before .before .before .before .before in
+    rw (c .before .number-in .ensures .0) (entry-visited (s .pre .0) (c .before .before .before .loop .i) (omega arith))
 
 add-i : tie.Need-add-i Inv-loop μ-loop
-add-i c = omega (arith, few (c .before .before .before .before .before .before))
+add-i c = search needs
 
 loop-less : tie.Need-loop-less Inv-loop μ-loop
-loop-less c = omega arith
+loop-less c = search needs
 
 loop-again : tie.Need-loop-again Inv-loop μ-loop
 loop-again c =
-    let t = c .before .before .before .before .before .before in
-    let a = t .before .before .before .before .args in
-    let s = t .before .loop in
-    let v = t .before .before .before .before .pre .0 .valid in
-    let read = c .before .before .before .before .any-entry-word in
-    let h : s .i < judged ((programIn (now (a .file))) .atoms) = omega (arith, t .before .before .before .before .pre .1 .0) in (
+    let l = c .before .before .before .before .before .loop in
+    let s = c .before .before .before .before .before .before .before .before .before in
+    let a = s .args in
+    let p = programIn (now (a .file)) in
+    let visited = objectiveIn (now (a .rows)) (now (a .visits)) in
+    let after = c .before .drop-entry .last .1 .1 .1 .1 .1 .0 in
+    let moved = c .before .drop-entry .result in
+    let within = objective-within (s .pre .0) (l .i) (omega arith) in
+    let one : Dropped p (visited (l .i)) (now (a .truth)) (now (a .backing)) (l .falses) after moved =
+    unfold objectiveIn in (rw (c .before .before .before .number-in .ensures .0) at (c .before .drop-entry .ensures)) in (
       omega arith,
       (
-        read .ensures .1,
+        refl,
         ⊎-elim
             (λ w.
             rw (w .1)
-            (dropped-less (programIn (now (a .file))) (now (a .truth)) (now (a .backing)) (now (a .falses)) (s .i) (s .falses) (s .changed) (s .inv .1 .1) v h
-            (read .result .word) (read .ensures .0) (w .0 .taken)))
+            (dropped-less p (now (a .truth)) (now (a .backing)) (now (a .falses)) visited (l .i) (l .falses) (l .changed) (l .inv .1 .1)
+            (s .pre .0 .valid) within after moved one (w .0 .taken)))
             (λ w.
             rw (w .1)
-            (dropped-same (programIn (now (a .file))) (now (a .truth)) (now (a .backing)) (now (a .falses)) (s .i) (s .falses) (s .changed) (s .inv .1 .1) v h
-            (read .result .word) (read .ensures .0) (w .0 .left)))
+            (dropped-same p (now (a .truth)) (now (a .backing)) (now (a .falses)) visited (l .i) (l .falses) (l .changed) (l .inv .1 .1)
+            (s .pre .0 .valid) within after moved one (w .0 .left)))
             (c .if1 .came),
       ),
     )
 
 returns : tie.Need-returns Inv-loop μ-loop
 returns c =
-    let a = c .before .before .before .before .args in
-    let e : c .before .loop .i ≡ a .count = omega arith in
-    rw e at (c .before .loop .inv .1 .1)
+    let a = c .before .before .before .before .before .args in
+    let l = c .before .loop in
+    let e : l .i ≡ length (now (a .visits)) = omega arith in
+    rw e at (l .inv .1 .1)
 
 pub drop-pass-spec : {M : Type 1} → statement M
 drop-pass-spec =
@@ -98,13 +89,8 @@ drop-pass-spec =
     Inv-loop
     μ-loop
     loop-holds
-    any-entry-word-requires
-    mul-old
-    element-copy-out-old
-    mul-new
-    element-copy-out-new
-    mul-falses
-    element-write-falses
+    number-in-requires
+    drop-entry-requires
     add-i
     loop-less
     loop-again

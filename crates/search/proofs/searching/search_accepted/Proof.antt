@@ -1,42 +1,39 @@
--- `search::searching::search_accepted` meets its contract.
+-- `search::searching::search_accepted` meets its contract: no step is none.
 -- Assumes nothing.
-use mathlib.Core.Path.{refl, _∙_}
-use native.Mathlib.Omega.{arith}
+use mathlib.Core.Path.{ap, _∙_}
+use Prim.Native.Nat.{ℕ}
 use borrow.Author.Needs.{needs}
 use denote.Ref.{now}
+use Rattle.papers.specs.Field.{numbers}
+use Rattle.steps.specs.Continuing.{steps, begun}
+use Rattle.steps.proofs.Runs.{steps-zero}
 use Rattle.search.specs.Searching.{problemIn}
-use Rattle.search.proofs.CallLaws.{unspoilt-kept, call-told, call-list}
+use Rattle.search.proofs.CallLaws.{call-told, call-list}
 use Rattle.search.proofs.searching.search_accepted.Statement.{statement}
 use Rattle.search.proofs.searching.search_accepted.Tie as tie
-
-try-all-requires : tie.Need-try-all-requires
-try-all-requires c κs =
-    let a = c .before .before .before .before .before .args in
-    let sound = c .before .before .before .before .before .pre in
-    let P = problemIn (now (a .file)) (now (a .query)) in (
-      record {
-        prepared = sound .prepared;
-        scenarios = sound .scenarios;
-        kept = unspoilt-kept P (sound .scenarios) (a .from) (now (a .list)) (sound .unspoilt);
-        room = omega arith;
-      },
-      refl,
-    )
 
 report-of-requires : tie.Need-report-of-requires
 report-of-requires c κs = search needs
 
+returns : tie.Need-returns
+returns c =
+    let s = c .before .before .before .before .before .before in
+    let a = s .args in
+    let P = problemIn (now (a .file)) (numbers (now (a .query))) in
+    let work = begun (a .from) (now (a .list)) in
+    let ran = ap (λ (n : ℕ). steps P n work) (c .before .if1 .taken) ∙ steps-zero P work in (
+      c .report-of .ensures ∙ call-told P (s .pre .scenarios) (a .from) (now (a .list)) (a .allowance) ran,
+      call-list P (s .pre .scenarios) (a .from) (now (a .list)) (a .allowance) ran,
+    )
+
+search-decoded-requires : tie.Need-search-decoded-requires
+search-decoded-requires c κs = search needs
+
 same-length : tie.Need-same-length
 same-length c = search needs
 
-returns : tie.Need-returns
-returns c =
-    let tried = c .before .before .before in
-    let start = tried .before .before .before .before .before .before in
-    let a = start .args in
-    let P = problemIn (now (a .file)) (now (a .query)) in
-    let ran = tried .try-all .ensures .is in
-    (c .report-of .ensures ∙ call-told P (start .pre .scenarios) (a .from) (now (a .list)) (a .allowance) ran, call-list P (start .pre .scenarios) (a .from) (now (a .list)) (a .allowance) ran)
+returns-2 : tie.Need-returns-2
+returns-2 c = search needs
 
 pub search-accepted-spec : {M : Type 1} → statement M
-search-accepted-spec = tie.close (tie.spec try-all-requires report-of-requires same-length returns)
+search-accepted-spec = tie.close (tie.spec report-of-requires returns search-decoded-requires same-length returns-2)

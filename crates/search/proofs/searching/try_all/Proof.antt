@@ -11,17 +11,19 @@ use Rattle.search.proofs.searching.try_all.Statement.{statement}
 use Rattle.search.proofs.searching.try_all.Tie as tie
 
 abbrev Inv-loop : tie.InvT-loop
-Inv-loop file contents places dual query list₀ total allowance reached₀ count₀ list reached count =
+Inv-loop file contents rules rule-visits entries entry-visits query list₀ total allowance reached₀ count₀ list reached count =
     Batch (reached .tried) allowance (reached .position) total count × Tried (problemIn file query) total (reached .tried) reached₀ list₀ reached list
 
 abbrev μ-loop : tie.MeasureT-loop
-μ-loop file contents places dual query list₀ total allowance reached₀ count₀ list reached count = allowance - reached .tried
+μ-loop file contents rules rule-visits entries entry-visits query list₀ total allowance reached₀ count₀ list reached count = allowance - reached .tried
 
 batch-size-requires : tie.Need-batch-size-requires Inv-loop μ-loop
-batch-size-requires c κs = (omega arith, c .before .before .before .before .pre .0 .kept .within)
+batch-size-requires c κs = (omega arith, c .before .before .before .before .before .before .before .pre .0 .kept .within)
 
 loop-holds : tie.Need-loop-holds Inv-loop μ-loop
-loop-holds c = let none = c .before .before .before .before .before .pre .1 in (rw none (c .batch-size .ensures), tried-none none (c .before .before .before .before .before .pre .0 .kept))
+loop-holds c =
+    let pre = c .before .before .before .before .before .before .before .before .pre in
+    (rw (pre .1) (c .batch-size .ensures), tried-none (pre .1) (pre .0 .kept))
 
 add-aim : tie.Need-add-aim Inv-loop μ-loop
 add-aim c = search needs
@@ -30,11 +32,13 @@ try-batch-requires : tie.Need-try-batch-requires Inv-loop μ-loop
 try-batch-requires c κs =
     let turn = c .before .before .before in
     let inv = turn .loop .inv in
-    let ready = turn .before .before .before .before .before .before .pre .0 in
+    let ready = turn .before .before .before .before .before .before .before .before .before .pre .0 in
     (record { prepared = ready .prepared; scenarios = ready .scenarios; kept = inv .1 .advance .kept; room = omega arith }, inv .0 .lanes)
 
 same-length : tie.Need-same-length Inv-loop μ-loop
-same-length c = let tried = c .before .before .before .before in tried .try-batch .ensures .advance .size ∙ tried .before .before .before .before .loop .inv .1 .advance .size
+same-length c =
+    let tried = c .before .before .before .before in
+    tried .try-batch .ensures .advance .size ∙ tried .before .before .before .before .loop .inv .1 .advance .size
 
 returns : tie.Need-returns Inv-loop μ-loop
 returns c =
@@ -43,7 +47,9 @@ returns c =
     tried-short (tried-then (inv .1) refl (tried .try-batch .ensures)) (inv .0 .allowed) (omega arith)
 
 batch-size-requires-2 : tie.Need-batch-size-requires-2 Inv-loop μ-loop
-batch-size-requires-2 c κs = let tried = c .before .before .before .before in (tried .before .before .before .before .loop .inv .0 .allowed, tried .try-batch .ensures .advance .kept .within)
+batch-size-requires-2 c κs =
+    let tried = c .before .before .before .before in
+    (tried .before .before .before .before .loop .inv .0 .allowed, tried .try-batch .ensures .advance .kept .within)
 
 loop-less : tie.Need-loop-less Inv-loop μ-loop
 loop-less c =
@@ -68,7 +74,8 @@ same-length-2 c = c .before .loop .inv .1 .advance .size
 returns-2 : tie.Need-returns-2 Inv-loop μ-loop
 returns-2 c =
     let inv = c .before .loop .inv in
-    tried-done (inv .1) (c .before .before .before .before .before .before .before .pre .0 .scenarios) (omega arith) (inv .0 .none (omega arith))
+    let pre = c .before .before .before .before .before .before .before .before .before .before .pre in
+    tried-done (inv .1) (pre .0 .scenarios) (omega arith) (inv .0 .none (omega arith))
 
 pub try-all-spec : {M : Type 1} → statement M
 try-all-spec =

@@ -5,7 +5,6 @@ use Prim.Native.Nat.{ℕ, _^_}
 use native.Mathlib.Omega.{arith}
 use borrow.Author.Needs.{needs}
 use denote.Ref.{now}
-use Rattle.papers.specs.Field.{numbers}
 use Rattle.papers.specs.Reading.{programIn}
 use Rattle.papers.proofs.FileFacts.{abducibles-are, atoms-are, few-atoms}
 use Rattle.search.proofs.Batches.{tried-lanes}
@@ -22,10 +21,10 @@ judge-lanes-requires c κs = search needs
 try-lanes-requires : tie.Need-try-lanes-requires
 try-lanes-requires c κs =
     let judged = c .before .before .before in
-    let start = judged .before .before .before .before .before .before in
+    let start = judged .before .before .before .before .before .before .before .before .before in
     let a = start .args in
     let ready = start .pre .0 in
-    let answer = ready .prepared .walked .answer in
+    let answer = ready .prepared .answer in
     let same = atoms-are (now (a .file)) (a .contents) answer in
     let few = few-atoms (now (a .file)) (a .contents) answer in
     record {
@@ -33,7 +32,7 @@ try-lanes-requires c κs =
       kept = ready .kept;
       lanes = start .pre .1;
       room = ready .room;
-      cost = judged-cost (programIn (now (a .file))) (numbers (now (a .query))) (judged .judge-lanes .ensures) (omega arith);
+      cost = judged-cost (programIn (now (a .file))) (now (a .query)) (judged .judge-lanes .ensures) (omega arith);
     }
 
 same-length : tie.Need-same-length
@@ -42,11 +41,11 @@ same-length c = search needs
 returns : tie.Need-returns
 returns c =
     let judged = c .before .before .before .before .before .before in
-    let start = judged .before .before .before .before .before .before in
+    let start = judged .before .before .before .before .before .before .before .before .before in
     let a = start .args in
-    let answer = start .pre .0 .prepared .walked .answer in
+    let answer = start .pre .0 .prepared .answer in
     tried-lanes (c .before .before .try-lanes .ensures)
-    (judged-lanes (programIn (now (a .file))) (numbers (now (a .query))) (judged .judge-lanes .ensures) (abducibles-are (now (a .file)) (a .contents) answer))
+    (judged-lanes (programIn (now (a .file))) (now (a .query)) (judged .judge-lanes .ensures) (abducibles-are (now (a .file)) (a .contents) answer))
 
 pub try-batch-spec : {M : Type 1} → statement M
 try-batch-spec =

@@ -1,10 +1,7 @@
 -- `settling::verdicts::judge_lanes` meets its contract.
 -- Assumes nothing.
-use mathlib.Core.Path.{_≡_}
-use mathlib.Core.List.{List}
-use Prim.Native.Nat.{ℕ}
+use mathlib.Core.Path.{_≡_, refl}
 use denote.Ref.{now}
-use Rattle.papers.specs.Field.{numbers}
 use Rattle.papers.specs.Program.{Program}
 use Rattle.papers.specs.Reading.{programIn}
 use Rattle.papers.proofs.FileFacts.{atoms-are, few-atoms}
@@ -12,39 +9,31 @@ use Rattle.settling.proofs.VerdictLaws.{query-listed, verdict-lanes}
 use Rattle.settling.proofs.verdicts.judge_lanes.Statement.{statement}
 use Rattle.settling.proofs.verdicts.judge_lanes.Tie as tie
 
--- ---- what the file and the sheet say
+-- ---- what the file says
 
 module _ (c : tie.Start) where
   abbrev program : Program
   program = programIn (now (c .args .file))
 
-  abbrev query : List ℕ
-  query = numbers (now (c .args .query))
-
   atoms : program .atoms ≡ c .args .contents .atoms
-  atoms = atoms-are (now (c .args .file)) (c .args .contents) (c .pre .0 .walked .answer)
+  atoms = atoms-are (now (c .args .file)) (c .args .contents) (c .pre .0 .answer)
 
-abbrev start : tie.After-settle → tie.Start
-start c = c .before .before .before .before
-
-settle-requires : tie.Need-settle-requires
-settle-requires c κs = let q = c .before .before .before .pre in (q .0 .walked, (q .0 .starts, q .1))
+settle-words-requires : tie.Need-settle-words-requires
+settle-words-requires c κs =
+    let pre = c .before .before .before .before .before .before .before .before .pre in
+    (pre .0 .answer, (pre .0 .decoded, (pre .1, (refl, refl))))
 
 explained-lanes-requires : tie.Need-explained-lanes-requires
 explained-lanes-requires c κs =
-    let s = start (c .before .before .before .before) in
-    let few = few-atoms (now (s .args .file)) (s .args .contents) (s .pre .0 .walked .answer) in
-    (few, rw (atoms s) at (query-listed (s .pre .0 .asked)))
+    let s = c .before .before .before .before .before .before .before .before .before .before .before in
+    (few-atoms (now (s .args .file)) (s .args .contents) (s .pre .0 .answer), rw (atoms s) at (query-listed (s .pre .0 .asked)))
 
 returns : tie.Need-returns
 returns c =
-    let explained = c .before .explained-lanes in
-    let settled = c .before .before .before .before .before .before in
-    let s = start settled in
-    let r = settled .settle .result in
-    verdict-lanes (program s) (s .args .base) (r .model .t) (r .model .f) (r .rounds) (settled .settle .ensures .0) (query s)
-    (explained .result) (s .pre .0 .asked)
-    (rw (atoms s) (explained .ensures))
+    let s = c .before .before .before .before .before .before .before .before .before .before .before .before in
+    let settled = c .before .before .before .settle-words in
+    verdict-lanes (program s) (s .args .base) (settled .last .1 .1 .1 .1 .1 .1 .1 .0) (settled .last .1 .1 .1 .1 .1 .1 .1 .1 .0) (settled .result)
+    (settled .ensures .0) (now (s .args .query)) (c .explained-lanes .result) (s .pre .0 .asked) (rw (atoms s) (c .explained-lanes .ensures))
 
 pub judge-lanes-spec : {M : Type 1} → statement M
-judge-lanes-spec = tie.close (tie.spec settle-requires explained-lanes-requires returns)
+judge-lanes-spec = tie.close (tie.spec settle-words-requires explained-lanes-requires returns)

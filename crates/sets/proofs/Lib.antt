@@ -1,0 +1,2 @@
+-- The lanes in which two rows differ.
+mod ChangeLaws
