@@ -14,7 +14,7 @@ use papers::Contents;
 use papers::PapersRead;
 use papers::Refusal;
 use searching::search_accepted;
-use stepping::spoilt::is_spoilt;
+use spoilt::is_spoilt;
 use steps::Record;
 use steps::State;
 

@@ -1,57 +1,69 @@
--- What a step is decided to do, case by case, and what a decision tells.
+-- What a step is decided to do, case by case.
 -- Assumes nothing.
-use mathlib.Core.Path.{_≡_, refl, sym, _∙_}
-use mathlib.Core.Bool.{Bool, true, false}
+use mathlib.Core.Path.{_≡_, refl, sym, ap, _∙_}
+use mathlib.Core.Bool.{Bool, true, false, not, _&&_, _||_}
 use mathlib.Core.List.{List}
 use Prim.Native.Nat.{ℕ, _^_, _<_, _≤_}
-use native.Mathlib.Omega.{arith}
-use lib.ListN.{length, take}
+use lib.ListN.{length, take, drop, take-append-drop}
+use lib.Seq.{take-take}
 use Rattle.stepping.specs.declared.Move.the-variants.{Stands, Tries, Writes}
 use Rattle.steps.specs.Scenarios.{Problem}
-use Rattle.steps.specs.Continuing.{containsOne, stands, tries, writes}
+use Rattle.steps.specs.Continuing.{containsOne, newTo}
 use Rattle.stepping.specs.Stepping.{Decided}
-use Rattle.steps.proofs.Steps.{move-end, move-tries, move-writes, move-full, move-writes-tells, new-not, new-listed, new-yes}
+use Rattle.steps.proofs.Minimals.{contains-append}
+use Rattle.steps.proofs.Steps.{move-end, move-tries, move-writes, move-full}
 
--- A problem with k abducibles in which every scenario is an explanation or none is.
-abbrev uniform : ℕ → Bool → Problem
-uniform k e = record { abducibles = k; explains = λ s. e; rounds = λ s. 0 }
+-- ---- new to the first entries, and to those after them
 
-module _ {k p f : ℕ} {l : List ℕ} {e : Bool} where
-  pub decided-end : p ≡ 3 ^ k → Decided k p f l e Stands
-  decided-end h = record { is = λ P a b. move-end P p f l (rw a h) }
+contains-split : (k n : ℕ) (l : List ℕ) (p : ℕ) → containsOne k l p ≡ containsOne k (take n l) p || containsOne k (drop n l) p
+contains-split k n l p =
+    ap (λ (entries : List ℕ). containsOne k entries p) (sym (take-append-drop n l)) ∙ contains-append k (take n l) (drop n l) p
 
-  module _ (inside : p ≡ 3 ^ k → ⊥) where
-    -- No explanation.
-    pub decided-dull : e ≡ false → Decided k p f l e Tries
-    decided-dull h = record { is = λ P a b. move-tries P p f l (rw a inside) (new-not P p f l (b ∙ h)) }
+new-of-both : (e a b : Bool) → e && not (a || b) ≡ (e && not a) && not b
+new-of-both true true b = refl
+new-of-both true false b = refl
+new-of-both false a b = refl
 
-    module _ (explains : e ≡ true) where
-      -- An explanation containing a listed entry's assumptions.
-      pub decided-listed : containsOne k (take f l) p ≡ true → Decided k p f l e Tries
-      decided-listed h = record { is = λ P a b. move-tries P p f l (rw a inside) (new-listed P p f l (b ∙ explains) (rw a h)) }
+new-since : (P : Problem) (p first found : ℕ) (l : List ℕ) → first ≤ found
+    → newTo P (take found l) p ≡ newTo P (take first l) p && not (containsOne (P .abducibles) (drop first (take found l)) p)
+unfolding newTo
+new-since P p first found l h =
+    rw (contains-split (P .abducibles) first (take found l) p, take-take first found l h)
+    (new-of-both (P .explains p) (containsOne (P .abducibles) (take first l) p) (containsOne (P .abducibles) (drop first (take found l)) p))
 
-      module _ (new : containsOne k (take f l) p ≡ false) where
+-- ---- what is decided
+
+module _ {k p first found : ℕ} {l : List ℕ} {new : Bool} where
+  pub decided-end : p ≡ 3 ^ k → Decided k p first found l new Stands
+  decided-end h = record { is = λ P a b. move-end P p found l (rw a h); allowed = tt }
+
+  module _ (compared : first ≤ found) (inside : p ≡ 3 ^ k → ⊥) where
+    -- No explanation, or one that is not new to the first entries.
+    pub decided-dull : new ≡ false → Decided k p first found l new Tries
+    decided-dull h = record {
+      is = λ P a b. move-tries P p found l (rw a inside) (new-since P p first found l compared ∙ rw (b, h));
+      allowed = inside;
+    }
+
+    module _ (is-new : new ≡ true) where
+      -- An explanation containing the assumptions of an entry after them.
+      pub decided-listed : containsOne k (drop first (take found l)) p ≡ true → Decided k p first found l new Tries
+      decided-listed h = record {
+        is = λ P a b. move-tries P p found l (rw a inside) (new-since P p first found l compared ∙ rw (b, a, is-new, h));
+        allowed = inside;
+      }
+
+      module _ (unlisted : containsOne k (drop first (take found l)) p ≡ false) where
         -- A new one, and there is room.
-        pub decided-new : f < length l → Decided k p f l e Writes
-        decided-new h = record { is = λ P a b. move-writes P p f l (rw a inside) (new-yes P p f l (b ∙ explains) (rw a new)) h }
+        pub decided-new : found < length l → Decided k p first found l new Writes
+        decided-new h = record {
+          is = λ P a b. move-writes P p found l (rw a inside) (new-since P p first found l compared ∙ rw (b, a, is-new, unlisted)) h;
+          allowed = (inside, h);
+        }
 
         -- A new one, and the list is full.
-        pub decided-full : length l ≤ f → Decided k p f l e Stands
-        decided-full h = record { is = λ P a b. move-full P p f l (rw a inside) (new-yes P p f l (b ∙ explains) (rw a new)) h }
-
-  -- ---- what a decision tells
-
-  pub tries-inside : Decided k p f l e Tries → p ≡ 3 ^ k → ⊥
-  tries-inside d h =
-      let a : stands ≡ tries = sym (move-end (uniform k e) p f l h) ∙ d .is (uniform k e) refl refl in
-      let z : _≡_ {A = ℕ} 0 1 = cc in
-      omega arith
-
-  pub writes-inside : Decided k p f l e Writes → p ≡ 3 ^ k → ⊥
-  writes-inside d h =
-      let a : stands ≡ writes = sym (move-end (uniform k e) p f l h) ∙ d .is (uniform k e) refl refl in
-      let z : _≡_ {A = ℕ} 0 1 = cc in
-      omega arith
-
-  pub writes-room : Decided k p f l e Writes → f < length l
-  writes-room d = move-writes-tells (uniform k e) p f l (d .is (uniform k e) refl refl)
+        pub decided-full : length l ≤ found → Decided k p first found l new Stands
+        decided-full h = record {
+          is = λ P a b. move-full P p found l (rw a inside) (new-since P p first found l compared ∙ rw (b, a, is-new, unlisted)) h;
+          allowed = tt;
+        }

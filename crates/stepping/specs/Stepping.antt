@@ -4,13 +4,13 @@ use mathlib.Core.Bool.{Bool}
 use mathlib.Core.List.{List}
 use mathlib.Core.Logic.{_⊎_}
 use Prim.Native.Nat.{ℕ, _+_, _*_, _^_, _<_, _≤_}
-use lib.ListN.{length, getD}
+use lib.ListN.{length, getD, take}
 use Rattle.lanes.specs.Lanes.{inLane}
 use Rattle.stepping.specs.declared.Move.{Move as Told}
 use Rattle.stepping.specs.declared.Move.the-variants.{Stands, Tries, Writes}
 use Rattle.stepping.specs.declared.Progress.{Progress}
 use Rattle.steps.specs.Scenarios.{Problem}
-use Rattle.steps.specs.Continuing.{Move, stands, tries, writes, move, Work, work, step, steps}
+use Rattle.steps.specs.Continuing.{newTo, Move, stands, tries, writes, move, Work, work, step, steps}
 
 -- The move that is told.
 abbrev pub moveOf : Told → Move
@@ -18,9 +18,16 @@ moveOf Stands = stands
 moveOf Tries = tries
 moveOf Writes = writes
 
--- The move of every problem that has k abducibles and in which p is an explanation or not, as said.
-pub record Decided (k p found : ℕ) (list : List ℕ) (explains : Bool) (told : Told) : Type 0 where
-  pub is : (P : Problem) → P .abducibles ≡ k → P .explains p ≡ explains → move P p found list ≡ moveOf told
+-- A scenario that is tried is below 3^k, and one that is written finds room.
+abbrev pub Allowed : Told → ℕ → ℕ → ℕ → List ℕ → Type 0
+Allowed Stands k p found list = Unit {0}
+Allowed Tries k p found list = p ≡ 3 ^ k → ⊥
+Allowed Writes k p found list = (p ≡ 3 ^ k → ⊥) × (found < length list)
+
+-- The move of every problem that has k abducibles and in which p is new to the first entries or not, as said.
+pub record Decided (k p first found : ℕ) (list : List ℕ) (new : Bool) (told : Told) : Type 0 where
+  pub is : (P : Problem) → P .abducibles ≡ k → newTo P (take first list) p ≡ new → move P p found list ≡ moveOf told
+  pub allowed : Allowed told k p found list
 
 -- How far a call has come, with its list.
 abbrev pub workOf : Progress → List ℕ → Work
@@ -43,20 +50,23 @@ pub record Advance (total count : ℕ) (before : Progress) (list : List ℕ) (af
 
 -- ---- one scenario
 
-pub record LaneReady (k total rounds : ℕ) (before : Progress) (list : List ℕ) : Type 0 where
+pub record LaneReady (k total first rounds : ℕ) (before : Progress) (list : List ℕ) : Type 0 where
   pub scenarios : total ≡ 3 ^ k
   pub kept : Kept total before list
+  pub compared : first ≤ before .found
   pub room : before .tried + 1 < 4294967296
   pub cost : rounds ≤ 1026
 
--- The step of every problem in which the scenario at the position is as said.
-pub record LaneTried (k total : ℕ) (explains : Bool) (rounds : ℕ) (before : Progress) (list : List ℕ) (after : Progress) (left : List ℕ)
+-- The step of every problem in which the scenario at the position is as said. The entries found before stay.
+pub record LaneTried (k total first : ℕ) (new : Bool) (rounds : ℕ) (before : Progress) (list : List ℕ) (after : Progress) (left : List ℕ)
     : Type 0 where
   pub advance : Advance total 1 before list after left
+  pub grown : before .found ≤ after .found
+  pub same : (n : ℕ) → n ≤ before .found → take n left ≡ take n list
   pub is :
       (P : Problem)
       → P .abducibles ≡ k
-      → P .explains (before .position) ≡ explains
+      → newTo P (take first list) (before .position) ≡ new
       → P .rounds (before .position) ≡ rounds
       → step P (workOf before list) ≡ workOf after left
 

@@ -1,11 +1,12 @@
-// The single steps of a search as code makes them: test 14, what a step does, and the steps of up to 64 scenarios.
+// The single steps of a search as code makes them: what a step does, and the steps of up to 64 scenarios.
+mod contained;
 mod parts;
-pub mod spoilt;
 
 ghost use mathlib.Core.Path.{_≡_};
 ghost use Prim.Native.Nat.{_≤_, _<_, _^_};
 ghost use lib.ListN.{length};
 ghost use Rattle.stepping.specs.Stepping.{Decided, LaneReady, LaneTried, LanesReady, LanesTried};
+use contained::new_lanes;
 use lanes::words::in_lane;
 use parts::contains_one;
 
@@ -16,18 +17,26 @@ pub enum Move {
     Writes,
 }
 
-// What the step at a position does, where its scenario is an explanation or not.
-fn decide(k: usize, total: u32, list: &[u32], position: u32, found: usize, explains: bool) -> Move
-    requires { ⌜ (total ≡ 3 ^ k) × (found ≤ length (now list)) ⌝ }
-    ensures { λ r. ⌜ Decided k position found (now (list .entry)) explains r ⌝ }
+// What the step at a position does, where its scenario is an explanation new to the first entries or not: those after them are still to compare.
+fn decide(
+    k: usize,
+    total: u32,
+    list: &[u32],
+    position: u32,
+    first: usize,
+    found: usize,
+    new: bool,
+) -> Move
+    requires { ⌜ (total ≡ 3 ^ k) × (first ≤ found) × (found ≤ length (now list)) ⌝ }
+    ensures { λ r. ⌜ Decided k position first found (now (list .entry)) new r ⌝ }
 {
     if position == total {
         return Move::Stands;
     }
-    if !explains {
+    if !new {
         return Move::Tries;
     }
-    if contains_one(k, list, found, position) {
+    if contains_one(k, list, first, found, position) {
         return Move::Tries;
     }
     if found < list.len() {
@@ -49,19 +58,20 @@ fn try_lane(
     list: &mut [u32],
     k: usize,
     total: u32,
-    explains: bool,
+    first: usize,
+    new: bool,
     rounds: u64,
     before: Progress,
 ) -> Progress
-    requires { ⌜ LaneReady k total rounds before (now list) ⌝ }
-    ensures { λ r. ⌜ LaneTried k total explains rounds before (now (list .entry)) r (now (list .exit)) ⌝ }
+    requires { ⌜ LaneReady k total first rounds before (now list) ⌝ }
+    ensures { λ r. ⌜ LaneTried k total first new rounds before (now (list .entry)) r (now (list .exit)) ⌝ }
 {
     let position = before.position;
     let found = before.found;
     let at = found as usize;
     let tried = before.tried + 1;
     let spent = before.rounds + rounds;
-    let step = decide(k, total, list, position, at, explains);
+    let step = decide(k, total, list, position, first, at, new);
     match step {
         Move::Stands => before,
         Move::Tries => Progress {
@@ -83,7 +93,7 @@ fn try_lane(
 }
 
 // The steps of up to 64 scenarios, from the position on: lane l of `explained` says whether scenario l of them is an explanation, and
-// `rounds` has its round count.
+// `rounds` has its round count. The entries found before are compared with all of them at once.
 pub fn try_lanes(
     list: &mut [u32],
     k: usize,
@@ -96,12 +106,16 @@ pub fn try_lanes(
     requires { ⌜ LanesReady k total (now rounds) count before (now list) ⌝ }
     ensures { λ r. ⌜ LanesTried k total explained (now (rounds .entry)) count before (now (list .entry)) r (now (list .exit)) ⌝ }
 {
+    let found = before.found as usize;
+    let told = new_lanes(k, list, found, before.position, count, explained);
+    let unlisted = told.lanes;
+    let first = told.entries;
     let mut reached = before;
     let mut lane: usize = 0;
     while lane < count {
         let tried = reached.tried;
-        let explains = in_lane(explained, lane);
-        reached = try_lane(list, k, total, explains, rounds[lane], reached);
+        let new = in_lane(unlisted, lane);
+        reached = try_lane(list, k, total, first, new, rounds[lane], reached);
         if reached.tried == tried {
             return reached;
         }

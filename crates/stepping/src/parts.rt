@@ -1,7 +1,7 @@
 // Parts of scenarios: whether one has only part of another's assumptions, and whether it contains those of a listed entry.
 ghost use mathlib.Core.Path.{_≡_};
 ghost use Prim.Native.Nat.{_≤_};
-ghost use lib.ListN.{length, take};
+ghost use lib.ListN.{length, take, drop};
 ghost use Rattle.steps.specs.Scenarios.{partOf};
 ghost use Rattle.steps.specs.Continuing.{containsOne};
 
@@ -26,12 +26,12 @@ pub(crate) fn part_of(k: usize, a: u32, b: u32) -> bool
     true
 }
 
-// Whether s contains the assumptions of one of the found entries.
-pub(crate) fn contains_one(k: usize, list: &[u32], found: usize, s: u32) -> bool
+// Whether s contains the assumptions of one of the found entries, the first ones left out.
+pub(crate) fn contains_one(k: usize, list: &[u32], first: usize, found: usize, s: u32) -> bool
     requires { ⌜ found ≤ length (now list) ⌝ }
-    ensures { λ r. ⌜ r ≡ containsOne k (take found (now (list .entry))) s ⌝ }
+    ensures { λ r. ⌜ r ≡ containsOne k (drop first (take found (now (list .entry)))) s ⌝ }
 {
-    let mut i: usize = 0;
+    let mut i = first;
     while i < found {
         if part_of(k, list[i], s) {
             return true;

@@ -1,5 +1,6 @@
 -- The laws of the search over any problem, and the pause theorem (`Pause`).
 pub mod Tests
+pub mod Entries
 pub mod PartLaws
 pub mod Minimality
 pub mod Minimals

@@ -17,7 +17,7 @@ use Rattle.steps.proofs.Tests.{both, left, right, either, same-tests, i
 use Rattle.steps.proofs.PartLaws.{part-trans, part-lt}
 use Rattle.steps.proofs.Minimality.{some-here, some-where, lesser-holds, lesser-tells, minimal-explains, minimal-least, not-minimal, contains-minimal}
 
-contains-append : (k : ℕ) (xs ys : List ℕ) (p : ℕ) → containsOne k (xs ++ ys) p ≡ containsOne k xs p || containsOne k ys p
+pub contains-append : (k : ℕ) (xs ys : List ℕ) (p : ℕ) → containsOne k (xs ++ ys) p ≡ containsOne k xs p || containsOne k ys p
 unfolding containsOne
 contains-append k [] ys p = refl
 contains-append k (x ∷ xs) ys p = rw (contains-append k xs ys p) (or-assoc (partOf k x p) _ _)

@@ -10,7 +10,7 @@ use borrow.Author.Tests.{ltb-true, ltb-false, eq-eqb, ne-eqb, lt-ltb, le-ltb}
 use lib.Dec.{eqb, ltb}
 use lib.ListN.{length, take, set}
 use Rattle.steps.specs.Scenarios.{Problem, scenarios}
-use Rattle.steps.specs.Continuing.{containsOne, newTo, Move, stands, tries, writes, move, Work, work, step}
+use Rattle.steps.specs.Continuing.{newTo, Move, stands, tries, writes, move, Work, work, step}
 
 -- ---- what a step does, over plain variables
 
@@ -18,18 +18,6 @@ module _ (P : Problem) (p f : ℕ) (l : List ℕ) where
   pub move-end : p ≡ scenarios P → move P p f l ≡ stands
   unfolding move
   move-end e = rw (eq-eqb p (scenarios P) e)
-
-  pub new-not : P .explains p ≡ false → newTo P (take f l) p ≡ false
-  unfolding newTo
-  new-not e = rw e
-
-  pub new-listed : P .explains p ≡ true → containsOne (P .abducibles) (take f l) p ≡ true → newTo P (take f l) p ≡ false
-  unfolding newTo
-  new-listed e h = rw (e, h)
-
-  pub new-yes : P .explains p ≡ true → containsOne (P .abducibles) (take f l) p ≡ false → newTo P (take f l) p ≡ true
-  unfolding newTo
-  new-yes e h = rw (e, h)
 
   module _ (inside : p ≡ scenarios P → ⊥) where
     pub move-tries : newTo P (take f l) p ≡ false → move P p f l ≡ tries

@@ -12,24 +12,24 @@ returns : tie.Need-returns
 returns c = decided-end (omega arith)
 
 returns-2 : tie.Need-returns-2
-returns-2 c = decided-dull (λ e. omega arith) (not-true _ (c .if2 .taken))
+returns-2 c = decided-dull (omega arith) (λ e. omega arith) (not-true _ (c .if2 .taken))
 
 contains-one-requires : tie.Need-contains-one-requires
 contains-one-requires c κs = search needs
 
 returns-3 : tie.Need-returns-3
 returns-3 c =
-    decided-listed (λ e. omega arith) (not-false _ (c .before .before .if2 .left))
+    decided-listed (omega arith) (λ e. omega arith) (not-false _ (c .before .before .if2 .left))
     (sym (c .before .contains-one .ensures) ∙ c .if3 .taken)
 
 returns-4 : tie.Need-returns-4
 returns-4 c =
-    decided-new (λ e. omega arith) (not-false _ (c .before .before .before .if2 .left))
+    decided-new (omega arith) (λ e. omega arith) (not-false _ (c .before .before .before .if2 .left))
     (sym (c .before .before .contains-one .ensures) ∙ c .before .if3 .left) (c .if4 .taken)
 
 returns-5 : tie.Need-returns-5
 returns-5 c =
-    decided-full (λ e. omega arith) (not-false _ (c .before .before .before .if2 .left))
+    decided-full (omega arith) (λ e. omega arith) (not-false _ (c .before .before .before .if2 .left))
     (sym (c .before .before .contains-one .ensures) ∙ c .before .if3 .left) (c .if4 .left)
 
 pub decide-spec : {M : Type 1} → statement M

@@ -24,8 +24,8 @@ enum-told c = search needs
 enum-told-2 : tie.Need-enum-told-2
 enum-told-2 c = search needs
 
-add-t16 : tie.Need-add-t16
-add-t16 c =
+add-t17 : tie.Need-add-t17
+add-t17 c =
     let done = lane-tries (c .before .before .before .before .before .before .before .pre) (c .before .before .decide .ensures) (c .enum-told2 .given .1) in
     omega arith
 
@@ -40,13 +40,13 @@ slice-write-list c =
     let done = lane-writes (c .before .before .before .before .before .before .before .pre) (c .before .before .decide .ensures) (c .enum-told3 .given .1) in
     omega arith
 
-add-t19 : tie.Need-add-t19
-add-t19 c =
+add-t20 : tie.Need-add-t20
+add-t20 c =
     let done = lane-writes (c .before .before .before .before .before .before .before .pre) (c .before .before .decide .ensures) (c .enum-told3 .given .1) in
     omega arith
 
-add-t20 : tie.Need-add-t20
-add-t20 c =
+add-t21 : tie.Need-add-t21
+add-t21 c =
     let done = lane-writes (c .before .before .before .before .before .before .before .pre) (c .before .before .decide .ensures) (c .enum-told3 .given .1) in
     omega arith
 
@@ -87,12 +87,12 @@ try-lane-spec =
     decide-requires
     enum-told
     enum-told-2
-    add-t16
+    add-t17
     enum-told-3
     mul-list
     slice-write-list
-    add-t19
     add-t20
+    add-t21
     same-length
     returns
     same-length-2

@@ -1,7 +1,7 @@
 -- `stepping::parts::contains_one` meets its contract. The loop's invariant: the entries from i on decide.
 -- Assumes nothing.
 use mathlib.Core.Path.{_≡_, sym, _∙_}
-use Prim.Native.Nat.{_≤_, _-_}
+use Prim.Native.Nat.{_-_}
 use borrow.Author.Needs.{needs}
 use lib.ListN.{take, drop}
 use Rattle.steps.specs.Continuing.{containsOne}
@@ -10,10 +10,10 @@ use Rattle.stepping.proofs.parts.contains_one.Statement.{statement}
 use Rattle.stepping.proofs.parts.contains_one.Tie as tie
 
 abbrev Inv-loop : tie.InvT-loop
-Inv-loop k list found s i₀ i = (i ≤ found) × (containsOne k (take found list) s ≡ containsOne k (drop i (take found list)) s)
+Inv-loop k list first found s i₀ i = containsOne k (drop first (take found list)) s ≡ containsOne k (drop i (take found list)) s
 
 abbrev μ-loop : tie.MeasureT-loop
-μ-loop k list found s i₀ i = found - i
+μ-loop k list first found s i₀ i = found - i
 
 loop-holds : tie.Need-loop-holds Inv-loop μ-loop
 loop-holds c = search needs
@@ -31,7 +31,7 @@ returns : tie.Need-returns Inv-loop μ-loop
 returns c =
     let in-loop = c .before .before .before in
     sym
-    (in-loop .before .loop .inv .1
+    (in-loop .before .loop .inv
     ∙ contains-here _ _ _ (in-loop .before .before .before .pre) _ _ (in-loop .loop-test .taken) (sym (c .before .part-of .ensures) ∙ c .if1 .taken))
 
 add-i : tie.Need-add-i Inv-loop μ-loop
@@ -42,14 +42,12 @@ loop-less c = search needs
 
 loop-again : tie.Need-loop-again Inv-loop μ-loop
 loop-again c =
-    let in-loop = c .before .before .before in (
-      search needs,
-      in-loop .before .loop .inv .1
-          ∙ contains-next _ _ _ (in-loop .before .before .before .pre) _ _ (in-loop .loop-test .taken) (sym (c .before .part-of .ensures) ∙ c .if1 .left),
-    )
+    let in-loop = c .before .before .before in
+    in-loop .before .loop .inv
+    ∙ contains-next _ _ _ (in-loop .before .before .before .pre) _ _ (in-loop .loop-test .taken) (sym (c .before .part-of .ensures) ∙ c .if1 .left)
 
 returns-2 : tie.Need-returns-2 Inv-loop μ-loop
-returns-2 c = sym (c .before .loop .inv .1 ∙ contains-none _ _ _ (c .before .before .before .pre) _ _ (c .loop-test .left))
+returns-2 c = sym (c .before .loop .inv ∙ contains-none _ _ _ (c .before .before .before .pre) _ _ (c .loop-test .left))
 
 pub contains-one-spec : {M : Type 1} → statement M
 contains-one-spec =

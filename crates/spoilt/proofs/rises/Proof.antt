@@ -1,4 +1,4 @@
--- `stepping::spoilt::rises` meets its contract. The loop's invariant: the entries from i on decide, with the least that the next may be.
+-- `spoilt::rises` meets its contract. The loop's invariant: the entries from i on decide, with the least that the next may be.
 -- Assumes nothing.
 use mathlib.Core.Path.{_≡_, sym, _∙_}
 use Prim.Native.Nat.{_≤_, _-_}
@@ -6,9 +6,9 @@ use native.Mathlib.Omega.{arith}
 use borrow.Author.Needs.{needs}
 use lib.ListN.{take, drop}
 use Rattle.steps.specs.Spoilt.{rising}
-use Rattle.stepping.proofs.Walking.{rising-next, rising-not, rising-end}
-use Rattle.stepping.proofs.spoilt.rises.Statement.{statement}
-use Rattle.stepping.proofs.spoilt.rises.Tie as tie
+use Rattle.spoilt.proofs.SpoiltLaws.{rising-next, rising-not, rising-end}
+use Rattle.spoilt.proofs.rises.Statement.{statement}
+use Rattle.spoilt.proofs.rises.Tie as tie
 
 abbrev Inv-loop : tie.InvT-loop
 Inv-loop list found least₀ i₀ least i = (i ≤ found) × (rising 0 (take found list) ≡ rising least (drop i (take found list)))

@@ -1,13 +1,13 @@
--- `stepping::spoilt::is_spoilt` meets its contract: a law of test 14 for each return.
+-- `spoilt::is_spoilt` meets its contract: a law of test 14 for each return.
 -- Assumes nothing.
 use mathlib.Core.Path.{sym, ap, _∙_}
 use mathlib.Core.Bool.{not}
 use native.Mathlib.Omega.{arith}
 use borrow.Author.Needs.{needs}
 use borrow.Author.Tests.{not-true, not-false}
-use Rattle.stepping.proofs.Walking.{spoilt-position, spoilt-found, spoilt-rising, spoilt-below}
-use Rattle.stepping.proofs.spoilt.is_spoilt.Statement.{statement}
-use Rattle.stepping.proofs.spoilt.is_spoilt.Tie as tie
+use Rattle.spoilt.proofs.SpoiltLaws.{spoilt-position, spoilt-found, spoilt-rising, spoilt-below}
+use Rattle.spoilt.proofs.is_spoilt.Statement.{statement}
+use Rattle.spoilt.proofs.is_spoilt.Tie as tie
 
 returns : tie.Need-returns
 returns c = sym (spoilt-position _ _ _ (c .if1 .taken))

@@ -1,4 +1,4 @@
--- `stepping::spoilt::all_below` meets its contract. The loop's invariant: the entries from i on decide.
+-- `spoilt::all_below` meets its contract. The loop's invariant: the entries from i on decide.
 -- Assumes nothing.
 use mathlib.Core.Path.{_≡_, sym, _∙_}
 use Prim.Native.Nat.{_≤_, _-_}
@@ -6,9 +6,9 @@ use native.Mathlib.Omega.{arith}
 use borrow.Author.Needs.{needs}
 use lib.ListN.{take, drop}
 use Rattle.steps.specs.Spoilt.{allBelow}
-use Rattle.stepping.proofs.Walking.{below-next, below-not, below-end}
-use Rattle.stepping.proofs.spoilt.all_below.Statement.{statement}
-use Rattle.stepping.proofs.spoilt.all_below.Tie as tie
+use Rattle.spoilt.proofs.SpoiltLaws.{below-next, below-not, below-end}
+use Rattle.spoilt.proofs.all_below.Statement.{statement}
+use Rattle.spoilt.proofs.all_below.Tie as tie
 
 abbrev Inv-loop : tie.InvT-loop
 Inv-loop list found position i₀ i = (i ≤ found) × (allBelow position (take found list) ≡ allBelow position (drop i (take found list)))
