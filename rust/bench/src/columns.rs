@@ -7,9 +7,13 @@ const WIDTH: usize = 15;
 const RATIO_WIDTH: usize = 8;
 
 pub fn heads(finders: &[&dyn Finder]) -> String {
+    named_heads(finders.iter().map(|finder| finder.name()))
+}
+
+pub fn named_heads<'n>(names: impl Iterator<Item = &'n str>) -> String {
     let mut text = String::new();
-    for (place, finder) in finders.iter().enumerate() {
-        text += &format!("{:>WIDTH$}", finder.name());
+    for (place, name) in names.enumerate() {
+        text += &format!("{name:>WIDTH$}");
         if place > 0 {
             text += &format!("{:>RATIO_WIDTH$}", "ratio");
         }

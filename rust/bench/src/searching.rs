@@ -80,6 +80,17 @@ pub fn whole(finder: &dyn Finder, papers: &Papers) -> Outcome {
     search.outcome()
 }
 
+/// The same by the finder without proofs, in one go.
+pub fn whole_by_native(papers: &Papers) -> Outcome {
+    let found = native::search(&papers.program, &papers.query);
+    Outcome {
+        found: found.scenarios,
+        tried: found.tried,
+        rounds: found.rounds,
+        has_ended: true,
+    }
+}
+
 /// The record in the words of a call that was not refused.
 pub fn record_of(words: &[u64; 8]) -> Record {
     let [number, _, _, position, found, ..] = *words;
@@ -104,5 +115,6 @@ mod tests {
         assert_eq!(outcome.tried, 59_049);
         assert_eq!(outcome.found.len(), 23);
         assert!(outcome.has_ended);
+        assert_eq!(outcome, whole_by_native(&papers));
     }
 }

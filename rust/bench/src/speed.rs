@@ -2,12 +2,12 @@
 
 use compare::words::Words;
 
-use crate::columns::{cells, heads};
+use crate::columns::{cells, heads, named_heads};
 use crate::files::Papers;
 use crate::finders::{Buffers, Finder, Finders, Linked};
 use crate::measuring::{times, work, Agreed};
-use crate::searching::{whole, Outcome};
-use crate::timing::{a_second, grouped, Times};
+use crate::searching::{whole, whole_by_native, Outcome};
+use crate::timing::{a_second, grouped, in_turn, Care, Times, Work};
 
 /// How many scenarios are judged between two looks at the clock.
 const JUDGED_AT_ONCE: u32 = 64;
@@ -19,22 +19,28 @@ const STRIDE: u32 = 7_919;
 /// seconds.
 const MOST_IF_SLOW: u64 = 50_000_000;
 
+/// What heads the column of the finder that only goes through whole searches.
+const NATIVE: &str = "native";
+
 /// The files of `judged` have a line for scenarios that are judged each by a
 /// call of its own, then all have one for whole searches.
 pub fn print(finders: &Finders, files: &[&Papers], judged: &[&Papers]) {
     let outcomes: Vec<Outcome> = files.iter().map(|papers| whole(&Linked, papers)).collect();
     print_files(files, &outcomes);
-    println!("\nScenarios settled a second of one core");
     let all = finders.all();
-    println!("    {:12}{:22}{}", "", "", heads(&all));
+    println!("\nScenarios judged a second of one core, each by a call of its own");
+    println!("    {:12}{}", "", heads(&all));
     for papers in judged {
-        print_line(papers.name, "one scenario a call", &judging(&all, papers));
+        print_line(papers.name, &judging(&all, papers));
     }
+    println!("\nScenarios settled a second of one core in whole searches");
+    let names = all.iter().map(|finder| finder.name());
+    println!("    {:12}{}", "", named_heads(names.chain([NATIVE])));
     for (papers, outcome) in files.iter().zip(&outcomes) {
-        let times = searching(&all, papers, outcome);
-        print_line(papers.name, "whole searches", &times);
+        print_line(papers.name, &searching(&all, papers, outcome));
     }
     println!("    -: left out, as it would take long");
+    println!("    {NATIVE}: without proofs, its papers read before, no dual written");
 }
 
 fn print_files(files: &[&Papers], outcomes: &[Outcome]) {
@@ -58,8 +64,8 @@ fn print_files(files: &[&Papers], outcomes: &[Outcome]) {
     }
 }
 
-fn print_line(name: &str, how: &str, times: &[Option<f64>]) {
-    println!("    {name:12}{how:22}{}", cells(times, a_second));
+fn print_line(name: &str, times: &[Option<f64>]) {
+    println!("    {name:12}{}", cells(times, a_second));
 }
 
 /// The seconds for a scenario that is judged by a call of its own.
@@ -99,17 +105,20 @@ fn some_scenarios(papers: &Papers, last: u32) -> impl Iterator<Item = u32> {
     (1..=JUDGED_AT_ONCE).map(move |step| (last + step * STRIDE) % scenarios)
 }
 
-/// The seconds for a scenario in whole searches, of which this comes.
+/// The seconds for a scenario in whole searches, of which this comes, by each
+/// finder and by the native one.
 fn searching(finders: &[&dyn Finder], papers: &Papers, outcome: &Outcome) -> Times {
-    times(finders, |finder| {
+    let tried = |given: Outcome, name: &str| {
+        assert_eq!(given, *outcome, "{name} differs");
+        given.tried
+    };
+    let works = finders.iter().map(|&finder| {
         let takes_too_long = finder.is_slow() && is_long(papers);
-        let searching = work(finder, move || {
-            let given = whole(finder, papers);
-            assert_eq!(given, *outcome, "{} differs", finder.name());
-            given.tried
-        });
-        (!takes_too_long).then_some(searching)
-    })
+        let run = move || tried(whole(finder, papers), finder.name());
+        (!takes_too_long).then_some(work(finder, run))
+    });
+    let by_native = Work::new(Care::Much, || tried(whole_by_native(papers), NATIVE));
+    in_turn(works.chain([Some(by_native)]).collect())
 }
 
 /// Whether a slow finder would take long for a whole search.

@@ -28,7 +28,7 @@ pub fn papers() -> Papers {
     let query = Query {
         literals: vec![holds(counted(FAULTS - 1, ENOUGH))],
     };
-    Papers::new("many finds", program, &query)
+    Papers::new("many finds", program, query)
 }
 
 /// So many of the faults up to this one are there if they are without it, or if

@@ -18,22 +18,24 @@ pub struct Papers {
     pub file: Vec<u8>,
     pub sheet: Vec<u8>,
     pub program: Program,
+    pub query: Query,
     pub scenarios: u32,
 }
 
 impl Papers {
-    pub fn new(name: &'static str, program: Program, query: &Query) -> Self {
+    pub fn new(name: &'static str, program: Program, query: Query) -> Self {
         Papers {
             name,
             file: encode_file(&program),
-            sheet: encode_sheet(query),
+            sheet: encode_sheet(&query),
             scenarios: scenario_count(&program),
             program,
+            query,
         }
     }
 
     /// Papers whose query is empty.
     pub fn without_query(name: &'static str, program: Program) -> Self {
-        Papers::new(name, program, &Query { literals: vec![] })
+        Papers::new(name, program, Query { literals: vec![] })
     }
 }

@@ -87,7 +87,7 @@ impl Shape {
         let query = Query {
             literals: vec![seen, unseen],
         };
-        Papers::new(self.name, program(self), &query)
+        Papers::new(self.name, program(self), query)
     }
 }
 

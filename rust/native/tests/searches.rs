@@ -1,0 +1,34 @@
+//! It finds what the separate finder finds, in the same rounds.
+
+use compare::causes::{causes, query_of_heads};
+use native::{search, Found};
+use plain::Search;
+use random::Random;
+
+/// How many files are searched, each made from its number.
+const FILES: u64 = 2_000;
+
+#[test]
+fn it_finds_what_the_separate_finder_finds() {
+    for seed in 0..FILES {
+        let mut random = Random::new(seed);
+        let abducibles = random.below(6);
+        let others = random.between(1, 5);
+        let program = causes(&mut random, abducibles, others);
+        let query = query_of_heads(&mut random, &program);
+        let found = search(&program, &query);
+        let expected = by_plain(Search::keeping(program, query));
+        assert_eq!(found, expected, "seed {seed}");
+    }
+}
+
+fn by_plain(mut search: Search) -> Found {
+    let count = plain::scenario_count(search.program());
+    Found {
+        scenarios: search.minimal_explanations(),
+        tried: count.into(),
+        rounds: (0..count)
+            .map(|scenario| search.judgement(scenario).rounds)
+            .sum(),
+    }
+}
