@@ -1,10 +1,10 @@
 // A depth-first search over the entries of the dual. An entry is closed when all that it depends on was met, so that the entries
 // in the order in which they are closed come after those they depend on, wherever there is no cycle.
 ghost use Prim.Native.Nat.{_≤_, _<_};
-use crate::numbers::get;
-use crate::numbers::put;
 use crate::numbers::short;
-use crate::numbers::wide;
+use arrays::get;
+use arrays::put;
+use arrays::wide;
 
 // An open entry: the number of its row, the next place to read, the ends of the clause there and of the row.
 pub struct Frame {
@@ -35,10 +35,10 @@ fn frame_at(stack: &[u16], depth: usize) -> Frame
 {
     let base = 4 * depth;
     Frame {
-        row: get(stack, base),
-        at: get(stack, base + 1),
-        clause_end: get(stack, base + 2),
-        row_end: get(stack, base + 3),
+        row: get(stack, base, 0),
+        at: get(stack, base + 1, 0),
+        clause_end: get(stack, base + 2, 0),
+        row_end: get(stack, base + 3, 0),
     }
 }
 
@@ -47,17 +47,17 @@ fn lay(stack: &mut [u16], depth: usize, frame: Frame)
     requires { ⌜ depth < 513 ⌝ }
 {
     let base = 4 * depth;
-    put(stack, base, frame.row);
-    put(stack, base + 1, frame.at);
-    put(stack, base + 2, frame.clause_end);
-    put(stack, base + 3, frame.row_end);
+    put(stack, base, short(frame.row));
+    put(stack, base + 1, short(frame.at));
+    put(stack, base + 2, short(frame.clause_end));
+    put(stack, base + 3, short(frame.row_end));
 }
 
 // The frame of a row of which nothing is read yet: its first number opens a clause.
 fn fresh_frame(entries: &[u16], starts: &[u16], row: usize) -> Frame {
-    let start = get(starts, row);
+    let start = get(starts, row, 0);
     let first = start + 2;
-    let size = get(entries, start + 1);
+    let size = get(entries, start + 1, 0);
     Frame {
         row,
         at: first,
@@ -160,7 +160,7 @@ fn step(
     let at = top.at;
     if at < top.row_end {
         lay(stack, depth - 1, top);
-        let next = get(entries, at) / 2;
+        let next = get(entries, at, 0) / 2;
         return Standing {
             depth: open_row(entries, starts, met, stack, depth, next),
             closed,

@@ -9,9 +9,9 @@ ghost use mathlib.Core.Bool.{true};
 ghost use Prim.Native.Nat.{ℕ, _≤_, _<_};
 ghost use lib.ListN.{length, getD};
 ghost use Rattle.ordering.specs.Orders.{Visits, Ordered, StaysFrom, Written, own, startAt};
+use arrays::wide;
 use counting::sort_by_rank;
 use depth::finishing_order;
-use numbers::wide;
 
 // A number stored at a place below `count`; nothing where the place is not.
 fn store(numbers: &mut [u16], count: usize, at: usize, number: u16)

@@ -1,0 +1,2 @@
+-- Laws of arrays.
+mod ArrayLaws
