@@ -1,0 +1,3 @@
+-- Laws of parts.
+pub mod PartLaws
+pub mod ReachLaws

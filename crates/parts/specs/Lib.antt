@@ -1,0 +1,3 @@
+-- Parts of the visits to rows.
+pub mod Parts
+pub mod Reaches
