@@ -14,4 +14,5 @@ pub mod Examples
 pub mod Rings
 pub mod ByteLaws
 pub mod Support
+pub mod LeastParts
 pub mod Coherence
