@@ -14,12 +14,13 @@ use lib.ListN.{length, getD, take, drop, set, length-set, length-map}
 use lib.Seq.{getD-set-same, getD-set-other, set-getD}
 use Rattle.papers.specs.Program.{Rule, noRule}
 use Rattle.papers.proofs.Lists.{getD-map-lt}
+use Rattle.parts.specs.Parts.{placeOf}
 use Rattle.model.specs.Tests.{_and_, _or_}
 use Rattle.model.specs.Sets.{Set, has, full}
 use Rattle.model.specs.LeastSet.{bodyHolds, supported, Reduct, least}
 use Rattle.lanes.specs.Lanes.{inLane, lane}
 use Rattle.lanes.specs.Words.{Literals, total, Laned}
-use Rattle.closing.specs.Closing.{ruleIn, rulesIn, RulesStand, Judged, Raised, Passed, begun, then}
+use Rattle.closing.specs.Closing.{ruleIn, visitedRule, rulesIn, RulesStand, Judged, Raised, Passed, begun, then, ClosedTrue}
 use Rattle.model.proofs.TestLaws.{both, left, right, either, either-left, either-right, true-and, false-and, true-or, false-or, or-false}
 use Rattle.model.proofs.SetLaws.{Sub, has-within, full-in, sub-refl}
 use Rattle.model.proofs.LeastLaws.{body-mono, least-closed, least-is}
@@ -30,12 +31,13 @@ use Rattle.lanes.proofs.LaneLaws.{lane-or, has-lane, sized, total-set}
 
 pub length-rules : (rows visits : List ℕ) → length (rulesIn rows visits) ≡ length visits
 unfolding rulesIn
-length-rules rows visits = length-map visits (ruleIn rows)
+length-rules rows visits = length-map visits (visitedRule rows)
 
 -- The rule of a visit.
-pub rule-visited : (rows visits : List ℕ) (i : ℕ) → i < length visits → getD (rulesIn rows visits) i noRule ≡ ruleIn rows (getD visits i 0)
-unfolding rulesIn
-rule-visited rows visits i h = getD-map-lt (ruleIn rows) visits i noRule 0 h
+pub rule-visited : (rows visits : List ℕ) (i : ℕ) → i < length visits
+    → getD (rulesIn rows visits) i noRule ≡ ruleIn rows (placeOf (getD visits i 0))
+unfolding rulesIn visitedRule
+rule-visited rows visits i h = getD-map-lt (visitedRule rows) visits i noRule 0 h
 
 -- Its body as a part of the rows.
 pub body-part : (rows : List ℕ) (place size : ℕ) → size ≡ getD rows (place + 1) 0
@@ -185,14 +187,14 @@ pub record Done (n : ℕ) (rules : List Rule) (negated before : List ℕ) (count
   -- Where something changed, the sum has grown.
   pub more : changed ≡ true → total before < total after
 
-lane-in : (n l o : ℕ) (words : List ℕ) → T (has (lane n l words) o) → (o < n) × T (inLane l (getD words o 0))
+pub lane-in : (n l o : ℕ) (words : List ℕ) → T (has (lane n l words) o) → (o < n) × T (inLane l (getD words o 0))
 lane-in n l o words t =
     let w = has-within (lane n l words) o t in
     let e = sized n l words in
     let h : o < n = omega arith in
     (h, rw (has-lane n l o words h) at t)
 
-lane-of : (n l o : ℕ) (words : List ℕ) → o < n → T (inLane l (getD words o 0)) → T (has (lane n l words) o)
+pub lane-of : (n l o : ℕ) (words : List ℕ) → o < n → T (inLane l (getD words o 0)) → T (has (lane n l words) o)
 lane-of n l o words h t = rw (has-lane n l o words h) t
 
 module _ (n : ℕ) (rules : List Rule) (negated before : List ℕ) (j : Judged n rules) (begins : Laned before) where
@@ -308,7 +310,7 @@ module _ (n : ℕ) (rules : List Rule) (negated before : List ℕ) (j : Judged n
           omega (arith, d .more c, total-le after 18446744073709551615 (λ o. omega (arith, d .laned .fits o)), d .laned .many)
       by false c = let d = passed in omega (arith, ap total (d .same c))
 
-  pub going-ends : {words : List ℕ} → Going n rules negated before words false → (l : ℕ) → l < 64
+  going-ends : {words : List ℕ} → Going n rules negated before words false → (l : ℕ) → l < 64
       → lane n l words ≡ least n rules (record { seed = lane n l before; allowed = full n; negated = lane n l negated })
   going-ends {words} so l h =
       let g : Reduct = record { seed = lane n l before; allowed = full n; negated = lane n l negated } in
@@ -323,3 +325,12 @@ module _ (n : ℕ) (rules : List Rule) (negated before : List ℕ) (j : Judged n
       })
       (so .inside l h (least n rules g) (record { heads = λ o m t. top .heads o m (full-in n o m) t })
       (record { at = λ o t. let k = lane-in n l o before t in top .seeds o (k .0) (full-in n o (k .0)) t }))
+
+-- Where they have ended for every n, the sets are closed.
+pub going-closed : {rules : List Rule} {negated before words : List ℕ} → Laned before → Judged 513 rules
+    → ((n : ℕ) → Judged n rules → Going n rules negated before words false) → ClosedTrue rules negated before words
+going-closed {rules} {negated} {before} begins j so = record {
+  in-lane = λ n i. going-ends n rules negated before i begins (so n i);
+  beyond = λ n i. record { at = so n i .beyond };
+  laned = so 513 j .laned;
+}

@@ -3,7 +3,7 @@
 use mathlib.Core.Path.{_≡_, refl, sym, ap, _∙_}
 use mathlib.Core.Bool.{Bool, true, false, cond}
 use mathlib.Core.List.{List, [], _∷_, map}
-use Prim.Native.Nat.{ℕ, _+_, _-_, _*_, _≤_, _<_}
+use Prim.Native.Nat.{ℕ, _+_, _-_, _*_, _/_, _≤_, _<_}
 use native.Mathlib.Omega.{arith}
 use lib.Bits.{bitAnd}
 use lib.ListN.{length, getD, take, drop, length-append}
@@ -78,7 +78,7 @@ pub record EntryTo (p : Program) (o : ℕ) (rows truth falses : List ℕ) (lanes
 -- The clause that stands at a place.
 pub record ClauseStands (n : ℕ) (rows : List ℕ) (at : ℕ) : Type 0 where
   pub clause : List ℕ
-  pub size : getD rows at 0 ≡ length clause
+  pub size : getD rows at 0 ≡ 2 * length clause
   pub within : at + 1 + length clause ≤ length rows
   pub part : take (length clause) (drop (at + 1) rows) ≡ clause
   pub below : Literals n clause
@@ -149,7 +149,7 @@ module _ (p : Program) (rows : List ℕ) (place : ℕ) (truth falses : List ℕ)
           }
 
     -- One more clause is in the word.
-    pub entry-to-more : (next some : ℕ) → next ≡ at + 1 + getD rows at 0 → SomeWord (take (next - (at + 1)) (drop (at + 1) rows)) truth falses some
+    pub entry-to-more : (next some : ℕ) → next ≡ at + 1 + getD rows at 0 / 2 → SomeWord (take (next - (at + 1)) (drop (at + 1) rows)) truth falses some
         → EntryTo p o rows truth falses lanes end next (bitAnd word some)
     unfolding clausesRow clausesHold
     entry-to-more next some e m = go (w .rest) (w .below) (w .stands) (w .ends) (w .holds) where

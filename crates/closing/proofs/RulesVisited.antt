@@ -12,6 +12,8 @@ use Rattle.papers.specs.Program.{Rule, Program, noRule, allRules, ruleAt}
 use Rattle.papers.specs.Valid.{Valid}
 use Rattle.papers.proofs.Lists.{all-each}
 use Rattle.papers.proofs.RuleLaws.{rule-fitting, head-within}
+use Rattle.parts.specs.Parts.{placeOf, Parted}
+use Rattle.parts.proofs.PartLaws.{place-at}
 use Rattle.rows.specs.Rows.{ruleRow, ruleRows, StandsAt, Stand}
 use Rattle.rows.proofs.RowLaws.{rule-rows-count, rule-row-at}
 use Rattle.rows.proofs.StandLaws.{stands-first, stands-after, stands-part}
@@ -57,10 +59,7 @@ row-within r rows place s = let w = s .within in omega (arith, stands-first (sta
 
 -- ---- the visited rules
 
-module _ (p : Program) (valid : Valid p) (rows visits : List ℕ) (s : Stand (ruleRows p) rows visits) where
-  counted : length visits ≡ length (allRules p)
-  counted = s .sized ∙ rule-rows-count p
-
+module _ (p : Program) (valid : Valid p) (rows visits : List ℕ) (s : Stand 0 (ruleRows p) rows visits) where
   stands : (k : ℕ) → k < length (allRules p) → StandsAt (ruleRow (ruleAt p k)) rows (getD (s .starts) k 0)
   stands k h = rw (rule-row-at p k h) at (s .each k (omega (arith, rule-rows-count p)))
 
@@ -71,11 +70,15 @@ module _ (p : Program) (valid : Valid p) (rows visits : List ℕ) (s : Stand (ru
   fold-below : (i : ℕ) → i < length visits → fold i < length (allRules p)
   fold-below i h = let m = s .visited .each i (omega (arith, s .sized)) .row-below in omega (arith, rule-rows-count p)
 
-  visited-stands : (i : ℕ) → i < length visits → StandsAt (ruleRow (ruleAt p (fold i))) rows (getD visits i 0)
-  visited-stands i h = rw (s .visited .each i (omega (arith, s .sized)) .meets) (stands (fold i) (fold-below i h))
+  abbrev place : ℕ → ℕ
+  place i = placeOf (getD visits i 0)
+
+  visited-stands : (i : ℕ) → i < length visits → StandsAt (ruleRow (ruleAt p (fold i))) rows (place i)
+  visited-stands i h =
+      rw (sym (place-at visits i h) ∙ s .visited .each i (omega (arith, s .sized)) .meets) (stands (fold i) (fold-below i h))
 
   visited-rule : (i : ℕ) → i < length visits → getD (rulesIn rows visits) i noRule ≡ ruleAt p (fold i)
-  visited-rule i h = rule-visited rows visits i h ∙ rule-stands (ruleAt p (fold i)) rows (getD visits i 0) (visited-stands i h)
+  visited-rule i h = rule-visited rows visits i h ∙ rule-stands (ruleAt p (fold i)) rows (place i) (visited-stands i h)
 
   -- and each of the program's is visited.
   abbrev visit : ℕ → ℕ
@@ -88,7 +91,7 @@ module _ (p : Program) (valid : Valid p) (rows visits : List ℕ) (s : Stand (ru
   every-rule k h =
       let m = s .visited .every k (omega (arith, rule-rows-count p)) in
       rule-visited rows visits (visit k) (visit-below k h)
-      ∙ ap (ruleIn rows) (m .meets)
+      ∙ ap (ruleIn rows) (sym (place-at visits (visit k) (visit-below k h)) ∙ m .meets)
       ∙ rule-stands (ruleAt p k) rows (getD (s .starts) k 0) (stands k h)
 
   judged-body : (k : ℕ) → k < length (allRules p) → Literals (judged (p .atoms)) ((ruleAt p k) .body)
@@ -108,13 +111,16 @@ module _ (p : Program) (valid : Valid p) (rows visits : List ℕ) (s : Stand (ru
   pub rules-stand : RulesStand rows visits
   rules-stand = record {
     at = λ i h.
-        let e = rule-stands (ruleAt p (fold i)) rows (getD visits i 0) (visited-stands i h) in
+        let e = rule-stands (ruleAt p (fold i)) rows (place i) (visited-stands i h) in
         record {
-          within = row-within (ruleAt p (fold i)) rows (getD visits i 0) (visited-stands i h);
+          within = row-within (ruleAt p (fold i)) rows (place i) (visited-stands i h);
           head = rw e (omega (arith, head-within p valid (fold i) (fold-below i h), valid .fewAtoms));
           body = rw e (literals-of (omega (arith, valid .fewAtoms)) (judged-body (fold i) (fold-below i h)));
         };
   }
+
+  pub rules-parted : Parted 0 (length visits) rows visits
+  rules-parted = rw (s .sized) (s .parted)
 
   supported-same : (set negated : Set) (o : ℕ) → supported set negated (rulesIn rows visits) o ≡ supported set negated (allRules p) o
   supported-same set negated o =

@@ -8,6 +8,7 @@ use lib.Bits.{bitOr}
 use lib.Dec.{eqb}
 use lib.ListN.{length, getD, take, drop, set}
 use Rattle.papers.specs.Program.{Rule, noRule}
+use Rattle.parts.specs.Parts.{placeOf}
 use Rattle.model.specs.Tests.{_or_}
 use Rattle.model.specs.Sets.{full}
 use Rattle.model.specs.LeastSet.{least}
@@ -20,9 +21,13 @@ use Rattle.lanes.specs.Words.{OtherLanes, Literals, BodyWord, Laned}
 unfoldable pub ruleIn : List ℕ → ℕ → Rule
 ruleIn rows place = record { head = getD rows place 0; body = take (getD rows (place + 1) 0) (drop (place + 2) rows) }
 
--- Those at the visited places.
+-- That of a visit,
+unfoldable pub visitedRule : List ℕ → ℕ → Rule
+visitedRule rows visit = ruleIn rows (placeOf visit)
+
+-- and those of some visits.
 unfoldable pub rulesIn : List ℕ → List ℕ → List Rule
-rulesIn rows visits = map (ruleIn rows) visits
+rulesIn rows visits = map (visitedRule rows) visits
 
 -- A row stands there whole, and there is a word for each of its objective literals.
 pub record RuleStands (rows : List ℕ) (place : ℕ) : Type 0 where
@@ -31,7 +36,7 @@ pub record RuleStands (rows : List ℕ) (place : ℕ) : Type 0 where
   pub body : Literals 513 ((ruleIn rows place) .body)
 
 pub record RulesStand (rows visits : List ℕ) : Type 0 where
-  pub at : (i : ℕ) → i < length visits → RuleStands rows (getD visits i 0)
+  pub at : (i : ℕ) → i < length visits → RuleStands rows (placeOf (getD visits i 0))
 
 -- Rules over the first n objective literals.
 pub record Judged (n : ℕ) (rules : List Rule) : Type 0 where

@@ -10,6 +10,7 @@ use Rattle.literals.specs.Numbering.{judged}
 use Rattle.papers.specs.Program.{Program}
 use Rattle.papers.specs.Valid.{Valid}
 use Rattle.dual.specs.Table.{dual}
+use Rattle.parts.specs.Parts.{placeOf}
 use Rattle.rows.specs.Rows.{entryRow, entryRows, StandsAt, Stand}
 use Rattle.model.specs.Tests.{_and_, _or_}
 use Rattle.model.specs.Sets.{Set, has}
@@ -25,14 +26,15 @@ pub record EntryStands (p : Program) (rows : List ℕ) (place : ℕ) : Type 0 wh
   pub within : getD rows place 0 < judged (p .atoms)
   pub stands : StandsAt (entryRow p (getD rows place 0)) rows place
 
--- All entries stand at the visited places.
+-- Entries stand at the visited places,
+pub record EntriesVisited (p : Program) (rows visits : List ℕ) : Type 0 where
+  pub valid : Valid p
+  pub at : (i : ℕ) → i < length visits → EntryStands p rows (placeOf (getD visits i 0))
+
+-- and all of them are visited, in parts.
 pub record EntriesStand (p : Program) (rows visits : List ℕ) : Type 0 where
   pub valid : Valid p
-  pub stand : Stand (entryRows p) rows visits
-
--- The objective literal that is visited.
-unfoldable pub objectiveIn : List ℕ → List ℕ → ℕ → ℕ
-objectiveIn rows visits i = getD rows (getD visits i 0) 0
+  pub stand : Stand 1 (entryRows p) rows visits
 
 -- ---- the words
 
@@ -73,17 +75,31 @@ pub record Dropped (p : Program) (o : ℕ) (truth backing before after : List �
   pub is : after ≡ set before o (bitAnd (getD before o 0) (bitOr (getD backing o 0) word))
   pub told : changed ≡ not (eqb (bitAnd (getD before o 0) (bitOr (getD backing o 0) word)) (getD before o 0))
 
--- What dropping the first `upto` objective literals that are visited and not backed does to the words.
-pub record DroppedTo (visited : ℕ → ℕ) (upto : ℕ) (p : Program) (truth backing before after : List ℕ) (changed : Bool) : Type 0 where
+-- What dropping the first `upto` objective literals that are visited, where they are not backed, does to the words.
+pub record Narrowed (visited : ℕ → ℕ) (upto : ℕ) (p : Program) (truth backing before after : List ℕ) : Type 0 where
   pub long : length after ≡ 513
   pub beyond : KeptFrom (judged (p .atoms)) before after
+  -- Nothing comes in, and only what is visited leaves.
+  pub less : (l o : ℕ) → T (inLane l (getD after o 0)) → T (inLane l (getD before o 0))
+  pub others : (o : ℕ) → ((i : ℕ) → i < upto → visited i ≡ o → ⊥) → getD after o 0 ≡ getD before o 0
   -- Nothing of a backed set is lost.
   pub keeps : (l : ℕ) → l < 64 → (t : Set) → GivenBacked p (lane (judged (p .atoms)) l backing) (lane (judged (p .atoms)) l truth) t
       → ((o : ℕ) → T (has t o) → T (inLane l (getD before o 0))) → (o : ℕ) → T (has t o) → T (inLane l (getD after o 0))
-  -- Where nothing changed, each of them is backed.
-  pub same : changed ≡ false → after ≡ before
-  pub backed : changed ≡ false → (l i : ℕ) → l < 64 → i < upto → T (inLane l (getD before (visited i) 0))
+
+-- Of the first `upto` that are visited, what is in is backed.
+pub record BackedTo (visited : ℕ → ℕ) (upto : ℕ) (p : Program) (truth backing falses : List ℕ) : Type 0 where
+  pub at : (l i : ℕ) → l < 64 → i < upto → T (inLane l (getD falses (visited i) 0))
       → T (inLane l (getD backing (visited i) 0)
-      or entryHolds (dual p) (lane (judged (p .atoms)) l truth) (lane (judged (p .atoms)) l before) (dual p) (visited i))
-  -- Where something did, there are fewer.
+      or entryHolds (dual p) (lane (judged (p .atoms)) l truth) (lane (judged (p .atoms)) l falses) (dual p) (visited i))
+
+-- A pass: where nothing changed, each of them is backed; where something did, there are fewer.
+pub record DroppedTo (visited : ℕ → ℕ) (upto : ℕ) (p : Program) (truth backing before after : List ℕ) (changed : Bool) : Type 0 where
+  pub narrowed : Narrowed visited upto p truth backing before after
+  pub same : changed ≡ false → after ≡ before
+  pub backed : changed ≡ false → BackedTo visited upto p truth backing before
   pub fewer : changed ≡ true → total after < total before
+
+-- What closing a part does to the words: of those visited, what is left is backed.
+pub record PartDropped (visited : ℕ → ℕ) (count : ℕ) (p : Program) (truth backing before after : List ℕ) : Type 0 where
+  pub narrowed : Narrowed visited count p truth backing before after
+  pub backed : BackedTo visited count p truth backing after

@@ -1,9 +1,9 @@
 // Falsity from the entries of the dual, in sixty-four scenarios at once: "F(j+1) is the greatest set with each o in it backed".
 // Bit l of word o says whether o is in the set of lane l.
-ghost use Rattle.literals.specs.Numbering.{judged};
 ghost use Rattle.papers.specs.Reading.{programIn};
 ghost use Rattle.lanes.specs.Words.{Literals};
-ghost use Rattle.closing.specs.FalseWords.{EntryStands, EntriesStand, objectiveIn, SomeWord, EntryWord, Dropped, DroppedTo, FalseWords};
+ghost use Rattle.parts.specs.Parts.{headAt};
+ghost use Rattle.closing.specs.FalseWords.{EntryStands, EntriesVisited, EntriesStand, SomeWord, EntryWord, Dropped, DroppedTo, PartDropped, FalseWords};
 ghost use lib.ListN.{length, getD};
 ghost use mathlib.Core.Path.{_≡_};
 use lanes::words::other_lanes;
@@ -11,6 +11,8 @@ use lanes::words::word_of;
 use numbered::literal_in;
 use numbered::number_in;
 use numbered::objective_in;
+use parts::part_end;
+use parts::place_of;
 use sets::fill_words;
 
 // The lanes in which one of a clause's literals holds.
@@ -49,7 +51,7 @@ fn entry_word(
             return 0;
         }
         let start = at + 1;
-        let next = start + number_in(rows, at);
+        let next = start + number_in(rows, at) / 2;
         word = word & clause_word(&rows[start..next], truth, falses);
         at = next;
     }
@@ -89,15 +91,15 @@ fn drop_pass(
     backing: &[u64; 513],
     falses: &mut [u64; 513],
 ) -> bool
-    requires { ⌜ EntriesStand (programIn (now file)) (now rows) (now visits) × (length (now falses) ≡ 513) ⌝ }
-    ensures { λ r. ⌜ DroppedTo (objectiveIn (now (rows .entry)) (now (visits .entry))) (length (now (visits .entry))) (programIn (now (file .entry)))
+    requires { ⌜ EntriesVisited (programIn (now file)) (now rows) (now visits) × (length (now falses) ≡ 513) ⌝ }
+    ensures { λ r. ⌜ DroppedTo (headAt (now (rows .entry)) (now (visits .entry))) (length (now (visits .entry))) (programIn (now (file .entry)))
         (now (truth .entry)) (now (backing .entry)) (now (falses .entry)) (now (falses .exit)) r ⌝ }
 {
     let count = visits.len();
     let mut changed = false;
     let mut i: usize = 0;
     while i < count {
-        let place = number_in(visits, i);
+        let place = place_of(visits[i]);
         if drop_entry(file, rows, place, truth, backing, falses) {
             changed = true;
         }
@@ -106,7 +108,30 @@ fn drop_pass(
     changed
 }
 
-// The greatest set, in each lane: from all judged literals, passes until one changes nothing.
+// The entries of some visits: passes until one changes nothing. A single entry needs one.
+fn drop_part(
+    file: &[u8],
+    rows: &[u16],
+    visits: &[u16],
+    truth: &[u64; 513],
+    backing: &[u64; 513],
+    falses: &mut [u64; 513],
+)
+    requires { ⌜ EntriesVisited (programIn (now file)) (now rows) (now visits) × (length (now falses) ≡ 513) ⌝ }
+    ensures { λ _. ⌜ PartDropped (headAt (now (rows .entry)) (now (visits .entry))) (length (now (visits .entry))) (programIn (now (file .entry)))
+        (now (truth .entry)) (now (backing .entry)) (now (falses .entry)) (now (falses .exit)) ⌝ }
+{
+    if visits.len() == 1 {
+        drop_entry(file, rows, place_of(visits[0]), truth, backing, falses);
+        return;
+    }
+    let mut going = true;
+    while going {
+        going = drop_pass(file, rows, visits, truth, backing, falses);
+    }
+}
+
+// The greatest set, in each lane: from all judged literals, part by part.
 pub fn close_false(
     file: &[u8],
     rows: &[u16],
@@ -118,9 +143,12 @@ pub fn close_false(
     requires { ⌜ EntriesStand (programIn (now file)) (now rows) (now visits) ⌝ }
     ensures { λ _. ⌜ FalseWords (programIn (now (file .entry))) (now (truth .entry)) (now (backing .entry)) (now (falses .entry)) (now (falses .exit)) ⌝ }
 {
-    fill_words(falses, visits.len(), 18446744073709551615);
-    let mut going = true;
-    while going {
-        going = drop_pass(file, rows, visits, truth, backing, falses);
+    let count = visits.len();
+    fill_words(falses, count, 18446744073709551615);
+    let mut start: usize = 0;
+    while start < count {
+        let end = part_end(visits, start);
+        drop_part(file, rows, &visits[start..end], truth, backing, falses);
+        start = end;
     }
 }

@@ -105,7 +105,7 @@ fn leads_on(met: &[bool], number: usize) -> bool {
 }
 
 // The frame with its place at the next literal that leads on, or at the row's end. Where a clause ends, the next number is the
-// length of the one after it.
+// bytes that the one after it takes.
 fn advance(entries: &[u16], met: &[bool], frame: Frame) -> Frame {
     let row = frame.row;
     let row_end = smaller(frame.row_end, entries.len());
@@ -114,7 +114,7 @@ fn advance(entries: &[u16], met: &[bool], frame: Frame) -> Frame {
     while at < row_end {
         let number = wide(entries[at]);
         if at == clause_end {
-            clause_end = at + 1 + number;
+            clause_end = at + 1 + number / 2;
         } else if leads_on(met, number) {
             return Frame {
                 row,

@@ -2,7 +2,7 @@
 -- Assumes nothing.
 use mathlib.Core.Path.{_≡_, refl, sym, ap, _∙_}
 use mathlib.Core.List.{List, [], _∷_, _++_, map, append-assoc}
-use Prim.Native.Nat.{ℕ, _+_, _/_, _≤_, _<_}
+use Prim.Native.Nat.{ℕ, _+_, _*_, _/_, _≤_, _<_}
 use native.Mathlib.Omega.{arith}
 use native.Mathlib.Numerals.{add-one}
 use lib.ListN.{length, getD, take, drop, set, length-append, length-map, drop-of-length-le}
@@ -27,20 +27,20 @@ use Rattle.rows.proofs.EntryBytes.{fold-size, fold-listed, fold-stands}
 
 -- The part of the bytes that lists it.
 pub clause-laid : (part listed before : List ℕ) (at : ℕ) → numbers part ≡ listed → at + (1 + length listed) ≤ length before
-    → laid (at + 1) (numbers part) (set before at (length part / 2)) ≡ laid at (length listed ∷ listed) before
+    → laid (at + 1) (numbers part) (set before at (2 * (length part / 2))) ≡ laid at (2 * length listed ∷ listed) before
 clause-laid part listed before at e room =
     let c : length part / 2 ≡ length listed = sym (count-numbers part) ∙ ap length e in
-    rw (c, e) (laid-after at (length listed) before listed room)
+    rw (c, e) (laid-after at (2 * length listed) before listed room)
 
 -- ---- clauses as rows
 
 unfoldable pub clauseRow : List ℕ → List ℕ
-clauseRow clause = length clause ∷ clause
+clauseRow clause = 2 * length clause ∷ clause
 
 clauses-joined : (clauses : List (List ℕ)) → clausesRow clauses ≡ joined (map clauseRow clauses)
 unfolding clausesRow clauseRow joined
 clauses-joined [] = refl
-clauses-joined (clause ∷ more) = ap (λ (l : List ℕ). length clause ∷ (clause ++ l)) (clauses-joined more)
+clauses-joined (clause ∷ more) = ap (λ (l : List ℕ). 2 * length clause ∷ (clause ++ l)) (clauses-joined more)
 
 module _ (p : Program) (o : ℕ) where
   abbrev pub clauseRows : List (List ℕ)
@@ -123,9 +123,9 @@ module _ (p : Program) (bytes : List ℕ) (o at : ℕ) (before : List ℕ) (room
       listed : listedIn (drop place bytes) ≡ clauseOf p k
       listed = fold-listed k (clauseOf p k) rest (drop place bytes) field
 
-      row-here : getD (clauseRows p o) i [] ≡ length (listedIn (drop place bytes)) ∷ listedIn (drop place bytes)
+      row-here : getD (clauseRows p o) i [] ≡ 2 * length (listedIn (drop place bytes)) ∷ listedIn (drop place bytes)
       unfolding clauseRow
-      row-here = row-at p o i here ∙ ap (λ (l : List ℕ). length l ∷ l) (sym listed)
+      row-here = row-at p o i here ∙ ap (λ (l : List ℕ). 2 * length l ∷ l) (sym listed)
 
       -- It stands,
       pub folds-stand : FoldStands (drop place bytes)
@@ -143,11 +143,11 @@ module _ (p : Program) (bytes : List ℕ) (o at : ℕ) (before : List ℕ) (room
       -- and one more is written.
       pub folds-more : (next reached : ℕ) (more : List ℕ) → next ≡ place + 3 + sizeOf (drop place bytes)
           → reached ≡ end + (1 + length (listedIn (drop place bytes)))
-          → more ≡ laid end (length (listedIn (drop place bytes)) ∷ listedIn (drop place bytes)) numbers → length more ≡ length numbers
+          → more ≡ laid end (2 * length (listedIn (drop place bytes)) ∷ listedIn (drop place bytes)) numbers → length more ≡ length numbers
           → FoldsTo p bytes o at before (i + 1) next reached more
       folds-more next reached more e r w same =
           let n = rows-count p o in
-          let row = length (listedIn (drop place bytes)) ∷ listedIn (drop place bytes) in
+          let row = 2 * length (listedIn (drop place bytes)) ∷ listedIn (drop place bytes) in
           let upto : joined (take (i + 1) (clauseRows p o)) ≡ joined (take i (clauseRows p o)) ++ row =
           joined-more (clauseRows p o) i (omega arith) ∙ ap (λ (l : List ℕ). joined (take i (clauseRows p o)) ++ l) row-here in
           let room-there = folds-room in

@@ -2,13 +2,14 @@
 use mathlib.Core.Path.{_≡_}
 use mathlib.Core.Bool.{cond}
 use mathlib.Core.List.{List, [], _∷_, _++_, map}
-use Prim.Native.Nat.{ℕ, zero, suc, _+_, _≤_, _<_}
+use Prim.Native.Nat.{ℕ, zero, suc, _+_, _*_, _≤_, _<_}
 use lib.ListN.{length, getD, take}
 use Rattle.literals.specs.Numbering.{defaultConjugate, judged}
 use Rattle.papers.specs.Program.{Rule, Program, allRules, ruleAt}
 use Rattle.dual.specs.Table.{foldsOf, hasEntry}
 use Rattle.dual.specs.Bytes.{filled}
 use Rattle.ordering.specs.Orders.{Visits, StaysFrom}
+use Rattle.parts.specs.Parts.{placesOf, Parted}
 
 -- ---- rows
 
@@ -16,10 +17,10 @@ use Rattle.ordering.specs.Orders.{Visits, StaysFrom}
 unfoldable pub ruleRow : Rule → List ℕ
 ruleRow r = r .head ∷ length (r .body) ∷ r .body
 
--- Clauses: for each how many literals it lists, and these.
+-- Clauses: for each the bytes that its literals take, and these. The first is even, so that it is not read as a literal not(o).
 unfoldable pub clausesRow : List (List ℕ) → List ℕ
 clausesRow [] = []
-clausesRow (clause ∷ more) = length clause ∷ (clause ++ clausesRow more)
+clausesRow (clause ∷ more) = 2 * length clause ∷ (clause ++ clausesRow more)
 
 -- The clause of a fold: the literals that its 09 field lists.
 abbrev pub clauseOf : Program → ℕ → List ℕ
@@ -65,15 +66,16 @@ pub record StandsAt (row numbers : List ℕ) (place : ℕ) : Type 0 where
   pub within : place + length row ≤ length numbers
   pub at : (i : ℕ) → i < length row → getD numbers (place + i) 0 ≡ getD row i 0
 
--- The rows stand there, each from its start on, and all of them are visited and nothing else.
-pub record Stand (rows : List (List ℕ)) (numbers visits : List ℕ) : Type 0 where
+-- The rows stand there, each from its start on, and all of them are visited and nothing else, in parts. They ask by 2o or by 2o + 1.
+pub record Stand (by : ℕ) (rows : List (List ℕ)) (numbers visits : List ℕ) : Type 0 where
   pub starts : List ℕ
   pub sized : length visits ≡ length rows
   pub each : (k : ℕ) → k < length rows → StandsAt (getD rows k []) numbers (getD starts k 0)
-  pub visited : Visits (length rows) starts visits
+  pub visited : Visits (length rows) starts (placesOf visits)
+  pub parted : Parted by (length rows) numbers visits
 
 -- Rows laid from the start of an array on, with visits to all of them; past these the numbers stay.
-pub record Prepared (rows : List (List ℕ)) (before after visited visits : List ℕ) : Type 0 where
+pub record Prepared (by : ℕ) (rows : List (List ℕ)) (before after visited visits : List ℕ) : Type 0 where
   pub written : after ≡ filled (joined rows) before
-  pub stand : Stand rows after (take (length rows) visits)
+  pub stand : Stand by rows after (take (length rows) visits)
   pub stays : StaysFrom (length rows) visited visits

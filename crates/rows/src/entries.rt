@@ -1,7 +1,7 @@
 // The dual in its buffer as rows of numbers: they are read from its bytes.
 ghost use mathlib.Core.Path.{_≡_};
 ghost use mathlib.Core.List.{_∷_};
-ghost use Prim.Native.Nat.{_+_, _<_, _≤_};
+ghost use Prim.Native.Nat.{_+_, _*_, _<_, _≤_};
 ghost use lib.ListN.{length, drop};
 ghost use Rattle.literals.specs.Numbering.{judged};
 ghost use Rattle.papers.specs.Field.{sizeOf};
@@ -27,14 +27,14 @@ fn decode_fold(dual: &[u8], place: usize, numbers: &mut [u16], at: usize) -> Rea
     ensures { λ r. ⌜ (r .place ≡ place + 3 + sizeOf (drop place (now (dual .entry))))
         × ((r .at ≡ at + (1 + length (listedIn (drop place (now (dual .entry))))))
         × (now (numbers .exit)
-        ≡ laid at (length (listedIn (drop place (now (dual .entry)))) ∷ listedIn (drop place (now (dual .entry)))) (now (numbers .entry)))) ⌝ }
+        ≡ laid at (2 * length (listedIn (drop place (now (dual .entry)))) ∷ listedIn (drop place (now (dual .entry)))) (now (numbers .entry)))) ⌝ }
 {
     let start = place + 5;
     let next = place + 3 + number_at(dual, place + 1);
     let listed = &dual[start..next];
     let count = listed.len() / 2;
     let first = at + 1;
-    numbers[at] = count as u16;
+    numbers[at] = (2 * count) as u16;
     copy_numbers(listed, numbers, first);
     let end = first + count;
     Reached {

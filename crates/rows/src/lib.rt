@@ -12,9 +12,10 @@ ghost use Rattle.rows.specs.DualBytes.{DualStarts};
 use entries::decode_dual;
 use ordering::order_rows;
 use papers::Contents;
+use parts::mark_parts;
 use rules::decode_rules;
 
-// Both, and both orders.
+// Both, and both orders with their parts: a rule asks for an o of its body, an entry for the o of a not(o) that it lists.
 pub fn prepare(
     file: &[u8],
     contents: Contents,
@@ -31,9 +32,9 @@ pub fn prepare(
         × ((1280 ≤ length (now «rule_visits»))
         × ((28000 ≤ length (now entries))
         × (513 ≤ length (now «entry_visits»)))))) ⌝ }
-    ensures { λ _. ⌜ Prepared (ruleRows (programIn (now (file .entry)))) (now (rules .entry)) (now (rules .exit))
+    ensures { λ _. ⌜ Prepared 0 (ruleRows (programIn (now (file .entry)))) (now (rules .entry)) (now (rules .exit))
         (now («rule_visits» .entry)) (now («rule_visits» .exit))
-        × Prepared (entryRows (programIn (now (file .entry)))) (now (entries .entry)) (now (entries .exit))
+        × Prepared 1 (entryRows (programIn (now (file .entry)))) (now (entries .entry)) (now (entries .exit))
         (now («entry_visits» .entry)) (now («entry_visits» .exit)) ⌝ }
 {
     let judged = literals::judged(contents.atoms);
@@ -54,4 +55,6 @@ pub fn prepare(
         rule_visits,
         count,
     );
+    mark_parts(rules, 0, rule_visits, count);
+    mark_parts(entries, 1, entry_visits, judged);
 }

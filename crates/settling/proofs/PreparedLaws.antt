@@ -42,7 +42,7 @@ module _ (file : List ℕ) (contents : Contents) (places dual query : List ℕ) 
 
   pub papers-decoded :
       (folds all size : ℕ) (asked₀ : List ℕ) {rules₀ rules visited visits entries₀ entries entered turns asked : List ℕ}
-      → Prepared (ruleRows p) rules₀ rules visited visits → Prepared (entryRows p) entries₀ entries entered turns
+      → Prepared 0 (ruleRows p) rules₀ rules visited visits → Prepared 1 (entryRows p) entries₀ entries entered turns
       → folds ≡ length (allRules p) → all ≡ judged (p .atoms) → size ≡ length query / 2 → asked ≡ laid 0 (numbers query) asked₀
       → Decoded file contents rules (take (folds - 0) (drop 0 visits)) entries (take (all - 0) (drop 0 turns)) (take (size - 0) (drop 0 asked))
   papers-decoded folds all size asked₀ {rules = rules} {visits = visits} {entries = entries} {turns = turns} {asked = asked} r q f a z e =

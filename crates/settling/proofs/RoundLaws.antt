@@ -51,7 +51,7 @@ joined-lane p base l trues falses t before after h a w =
     ∙ sym (has-setOf (λ q. has (trueAbducibles p (base + l)) q or has (lane (judged (p .atoms)) l t) q) (judged (p .atoms)) o k))
 
 -- So T(j+1), closed from them.
-pub next-true : (p : Program) (valid : Valid p) (rules visits trues t f before seed after : List ℕ) → Stand (ruleRows p) rules visits
+pub next-true : (p : Program) (valid : Valid p) (rules visits trues t f before seed after : List ℕ) → Stand 0 (ruleRows p) rules visits
     → Written (judged (p .atoms)) (joinedWord trues t) before seed → ClosedTrue (rulesIn rules visits) f seed after
     → NextTrue p trues t f before after
 unfolding trueReduct

@@ -18,7 +18,7 @@ use Rattle.digits.specs.Digits.{AbducibleLanes}
 -- The rules of a valid program stand as rows of numbers at the visited places,
 pub record RulesIn (p : Program) (rules visits : List ℕ) : Type 0 where
   pub valid : Valid p
-  pub stand : Stand (ruleRows p) rules visits
+  pub stand : Stand 0 (ruleRows p) rules visits
 
 -- and its dual too.
 pub record Decoded (p : Program) (rules rule-visits entries entry-visits : List ℕ) : Type 0 where

@@ -3,17 +3,19 @@
 use borrow.Author.Needs.{needs}
 use native.Mathlib.Omega.{arith}
 use mathlib.Core.Path.{_≡_, sym, ap, _∙_}
+use mathlib.Core.List.{List}
 use Prim.Native.Nat.{ℕ, _+_, _≤_}
 use lib.ListN.{length}
 use denote.Ref.{now}
 use Rattle.literals.specs.Numbering.{judged}
 use Rattle.papers.specs.Program.{Program}
 use Rattle.papers.specs.Reading.{programIn}
+use Rattle.parts.specs.Parts.{Unmarked}
 use Rattle.papers.proofs.FileFacts.{atoms-are}
 use Rattle.papers.proofs.FoldAnswers.{rules-counted, few-folds}
 use Rattle.rows.specs.Rows.{ruleRows, entryRows, joined}
 use Rattle.rows.proofs.RowLaws.{rule-rows-count, rule-rows-bound, entry-rows-count, entry-rows-bound}
-use Rattle.rows.proofs.PreparedLaws.{rows-prepared}
+use Rattle.rows.proofs.PreparedLaws.{visits-unmarked, rows-prepared}
 use Rattle.rows.proofs.prepare.Statement.{statement}
 use Rattle.rows.proofs.prepare.Tie as tie
 
@@ -112,8 +114,59 @@ order-rows-requires c κs =
       ),
     )
 
+-- ---- where the rows are ordered
+
+module _ (o : tie.After-order-rows) where
+  abbrev dual-done : tie.After-decode-dual
+  dual-done = dual-at (o .before)
+
+  abbrev rules-done : tie.After-decode-rules
+  rules-done = rules-at (dual-done .before)
+
+  abbrev counts : tie.After-judged
+  counts = judged-at rules-done
+
+  abbrev begun : tie.Start
+  begun = start counts
+
+  abbrev rules-ordered : List ℕ
+  rules-ordered = o .order-rows .last .1 .1 .1 .1 .1 .1 .0
+
+  abbrev entries-ordered : List ℕ
+  entries-ordered = o .order-rows .last .1 .1 .0
+
+  rules-unmarked : Unmarked (count begun) rules-ordered
+  rules-unmarked =
+      let p = program begun in
+      visits-unmarked (ruleRows p) _ (rules-done .decode-rules .last .1 .1 .1 .1 .0) rules-ordered (count begun) (rules-listed begun)
+      (omega (arith, rule-rows-bound p (begun .pre .1 .0 .valid))) (rules-done .decode-rules .ensures .1) (o .order-rows .ensures .1 .1 .0)
+
+  entries-unmarked : Unmarked (counts .judged .result) entries-ordered
+  entries-unmarked =
+      let p = program begun in
+      visits-unmarked (entryRows p) _ (dual-done .decode-dual .last .1 .1 .1 .1 .0) entries-ordered (counts .judged .result) (entries-listed counts)
+      (omega (arith, entry-rows-bound p (begun .pre .1 .0 .valid))) (dual-done .decode-dual .ensures .1) (o .order-rows .ensures .0)
+
+-- ---- where they are marked
+
+mark-parts-requires : tie.Need-mark-parts-requires
+mark-parts-requires c κs =
+    let o = c .before .before .before .before .before .before in
+    let few-rules = few (begun o) in
+    let long = o .order-rows .ensures .1 .1 .1 .sized in
+    (omega arith, (few-rules, (omega (arith, begun o .pre .1 .1 .1 .0), rules-unmarked o)))
+
+mark-parts-requires-2 : tie.Need-mark-parts-requires-2
+mark-parts-requires-2 c κs =
+    let o = c .before .before .before .before .before .before .before .before .before .before .before in
+    let few-entries = judged-few (counts o) in
+    let long = o .order-rows .ensures .1 .0 .sized in
+    (omega arith, (omega arith, (omega (arith, begun o .pre .1 .1 .1 .1 .1), entries-unmarked o)))
+
 same-length : tie.Need-same-length
-same-length c = search needs
+same-length c =
+    let m = c .before .before .before .before .before .before .before in
+    rules-done (m .before .before .before .before .before .before .before) .decode-rules .kept .1 .1 .1 .0
 
 same-length-2 : tie.Need-same-length-2
 same-length-2 c = search needs
@@ -126,19 +179,22 @@ same-length-4 c = search needs
 
 returns : tie.Need-returns
 returns c =
-    let o = c .before .before .before .before in
-    let d = dual-at (o .before) in
-    let r = rules-at (d .before) in
-    let j = judged-at r in
-    let s = start j in (
-      rows-prepared (ruleRows (program s)) (now (s .args .rules)) (r .decode-rules .last .1 .1 .1 .0) (now (s .args .rule-visits))
-          (o .order-rows .last .1 .1 .1 .1 .1 .1 .0) (rules-room s) (omega (arith, few s, rules-listed s, s .pre .1 .1 .1 .0)) _
+    let e = c .before .before in
+    let m = e .before .before .before .before .before in
+    let o = m .before .before .before .before .before .before .before in
+    let d = dual-done o in
+    let r = rules-done o in
+    let j = counts o in
+    let s = begun o in (
+      rows-prepared 0 (ruleRows (program s)) (now (s .args .rules)) (r .decode-rules .last .1 .1 .1 .0) (now (s .args .rule-visits))
+          (rules-ordered o) (m .mark-parts .last .1 .1 .0) (rules-room s) (omega (arith, few s, rules-listed s, s .pre .1 .1 .1 .0)) _
           (r .decode-rules .last .1 .1 .1 .1 .0) (r .decode-rules .ensures .0) (r .decode-rules .ensures .1) (count s) (rules-listed s)
-          (o .order-rows .ensures .1 .1 .0) (o .order-rows .ensures .1 .1 .1),
-      rows-prepared (entryRows (program s)) (now (s .args .entries)) (d .decode-dual .last .1 .1 .1 .0) (now (s .args .entry-visits))
-          (o .order-rows .last .1 .1 .0) (entries-room s) (omega (arith, judged-few j, entries-listed j, s .pre .1 .1 .1 .1 .1)) _
+          (o .order-rows .ensures .1 .1 .0) (o .order-rows .ensures .1 .1 .1) (m .mark-parts .ensures .0) (m .mark-parts .ensures .1),
+      rows-prepared 1 (entryRows (program s)) (now (s .args .entries)) (d .decode-dual .last .1 .1 .1 .0) (now (s .args .entry-visits))
+          (entries-ordered o) (e .mark-parts2 .last .1 .1 .0) (entries-room s)
+          (omega (arith, judged-few j, entries-listed j, s .pre .1 .1 .1 .1 .1)) _
           (d .decode-dual .last .1 .1 .1 .1 .0) (d .decode-dual .ensures .0) (d .decode-dual .ensures .1) (j .judged .result) (entries-listed j)
-          (o .order-rows .ensures .0) (o .order-rows .ensures .1 .0),
+          (o .order-rows .ensures .0) (o .order-rows .ensures .1 .0) (e .mark-parts2 .ensures .0) (e .mark-parts2 .ensures .1),
     )
 
 pub prepare-spec : {M : Type 1} → statement M
@@ -154,6 +210,8 @@ prepare-spec =
     slice-aggregate-order-rows
     slice-aggregate-order-rows-2
     order-rows-requires
+    mark-parts-requires
+    mark-parts-requires-2
     same-length
     same-length-2
     same-length-3

@@ -7,7 +7,7 @@ use denote.Ref.{now}
 use Rattle.papers.specs.Reading.{programIn}
 use Rattle.lanes.specs.Lanes.{Written}
 use Rattle.lanes.specs.Words.{joinedWord}
-use Rattle.closing.proofs.RulesVisited.{rules-stand}
+use Rattle.closing.proofs.RulesVisited.{rules-stand, rules-parted}
 use Rattle.settling.proofs.RoundLaws.{next-true}
 use Rattle.settling.proofs.next_true.Statement.{statement}
 use Rattle.settling.proofs.next_true.Tie as tie
@@ -24,7 +24,11 @@ close-true-requires : tie.Need-close-true-requires
 close-true-requires c κs =
     let s = c .before .before .before .before .before .before .before in
     let a = s .args in
-    rules-stand (programIn (now (a .file))) (s .pre .0 .valid) (now (a .rules)) (now (a .visits)) (s .pre .0 .stand)
+    let p = programIn (now (a .file)) in
+    let stand = s .pre .0 .stand in (
+      rules-stand p (s .pre .0 .valid) (now (a .rules)) (now (a .visits)) stand,
+      rules-parted p (s .pre .0 .valid) (now (a .rules)) (now (a .visits)) stand,
+    )
 
 returns-2 : tie.Need-returns-2
 returns-2 c =

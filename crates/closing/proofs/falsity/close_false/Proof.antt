@@ -1,44 +1,30 @@
--- `closing::falsity::close_false` meets its contract. The loop's invariant: nothing of a backed set is lost, and where the passes have stopped each
--- is backed. The measure is the sum of the words, and one while there is a pass to come.
+-- `closing::falsity::close_false` meets its contract. The loop's invariant: of what is visited before `start` what is left is backed, and it asks for
+-- no head of a visit from there on.
 -- Assumes nothing.
-use mathlib.Core.Path.{subst, _∙_}
-use mathlib.Core.Bool.{true}
-use mathlib.Core.List.{List}
-use Prim.Native.Nat.{ℕ}
+use borrow.Author.Needs.{needs}
+use mathlib.Core.Path.{_≡_, refl}
+use Prim.Native.Nat.{_-_, _≤_}
 use native.Mathlib.Omega.{arith}
 use denote.Ref.{now}
+use lib.ListN.{length}
 use Rattle.papers.specs.Reading.{programIn}
-use Rattle.closing.proofs.EntriesVisited.{visits-judged}
-use Rattle.closing.proofs.ClosingFalse.{Closing, left, closing-none, closing-more, closing-less, closing-done}
+use Rattle.parts.specs.Parts.{headAt, Apart}
+use Rattle.parts.proofs.PartLaws.{apart-none, apart-end}
+use Rattle.closing.specs.FalseWords.{PartDropped}
+use Rattle.closing.proofs.EntriesVisited.{visits-judged, entries-visited, entries-parted, part-entries}
+use Rattle.closing.proofs.FalseParts.{parts-none, parts-more}
+use Rattle.closing.proofs.ClosingFalse.{closing-done}
 use Rattle.closing.proofs.falsity.close_false.Statement.{statement}
 use Rattle.closing.proofs.falsity.close_false.Tie as tie
 
 abbrev Inv-loop : tie.InvT-loop
-Inv-loop file rows visits truth backing falses₀ going₀ falses going = Closing (programIn file) truth backing falses₀ falses going
+Inv-loop file rows visits truth backing falses₀ count start₀ falses start =
+    (start ≤ count)
+    × ((count ≡ length visits)
+    × (PartDropped (headAt rows visits) start (programIn file) truth backing falses₀ falses × Apart 1 (length visits) rows visits start))
 
 abbrev μ-loop : tie.MeasureT-loop
-μ-loop file rows visits truth backing falses₀ going₀ falses going = left falses going
-
--- ---- the places
-
-module _ (c : tie.After-fill-words Inv-loop μ-loop) where
-  abbrev start : tie.Start Inv-loop μ-loop
-  start = c .before .before .before .before .before
-
-  abbrev filled : List ℕ
-  filled = c .fill-words .last .0
-
-module _ (c : tie.After-drop-pass Inv-loop μ-loop) where
-  abbrev head : tie.At-loop Inv-loop μ-loop
-  head = c .before .before .before
-
-  -- Where a pass begins.
-  closing : Closing (programIn (now (start (head .before) .args .file))) (now (start (head .before) .args .truth)) (now (start (head .before) .args .backing))
-      (filled (head .before)) (head .loop .falses) true
-  closing =
-      let a = start (head .before) .args in
-      subst (Closing (programIn (now (a .file))) (now (a .truth)) (now (a .backing)) (filled (head .before)) (head .loop .falses))
-      (c .before .before .loop-test .taken) (head .loop .inv)
+μ-loop file rows visits truth backing falses₀ count start₀ falses start = count - start
 
 fill-words-requires : tie.Need-fill-words-requires Inv-loop μ-loop
 fill-words-requires c κs =
@@ -47,44 +33,63 @@ fill-words-requires c κs =
 
 loop-holds : tie.Need-loop-holds Inv-loop μ-loop
 loop-holds c =
-    let s = start c in
-    let a = s .args in
-    closing-none (programIn (now (a .file))) (now (a .truth)) (now (a .backing)) (filled c) (visits-judged (s .pre)) (c .fill-words .ensures .1)
-    (c .fill-words .ensures .0)
+    let a = c .before .before .before .before .before .args in
+    (omega arith, (refl, (parts-none (c .fill-words .ensures .1), apart-none 1 (length (now (a .visits))) (now (a .rows)) (now (a .visits)))))
 
-drop-pass-requires : tie.Need-drop-pass-requires Inv-loop μ-loop
-drop-pass-requires c κs =
-    let head = c .before .before in
-    (start (head .before) .pre, head .loop .inv .long)
+part-end-requires : tie.Need-part-end-requires Inv-loop μ-loop
+part-end-requires c κs = search needs
+
+-- ---- a part
+
+mul-drop-part : tie.Need-mul-drop-part Inv-loop μ-loop
+mul-drop-part c = let e = c .part-end .ensures in let w = e .within in search needs
+
+sub-drop-part : tie.Need-sub-drop-part Inv-loop μ-loop
+sub-drop-part c = let h = c .part-end .ensures .later in omega arith
+
+part-drop-part-start : tie.Need-part-drop-part-start Inv-loop μ-loop
+part-drop-part-start c = let h = c .part-end .ensures .later in omega arith
+
+part-drop-part-end : tie.Need-part-drop-part-end Inv-loop μ-loop
+part-drop-part-end c = let h = c .part-end .ensures .within in omega arith
+
+drop-part-requires : tie.Need-drop-part-requires Inv-loop μ-loop
+drop-part-requires c κs =
+    let s = c .before .before .before .before .before .before .before .before .before .before in
+    let found = c .before .before in
+    let l = found .before .before .loop in (
+      part-entries (l .start) (found .part-end .result) (found .part-end .ensures .within) (entries-visited (s .pre)),
+      l .inv .1 .1 .0 .narrowed .long,
+    )
 
 loop-less : tie.Need-loop-less Inv-loop μ-loop
-loop-less c =
-    let s = start (head c .before) in
-    let a = s .args in
-    rw (c .before .before .loop-test .taken)
-    (closing-less (programIn (now (a .file))) (now (a .truth)) (now (a .backing)) (filled (head c .before)) (head c .loop .falses)
-    (c .drop-pass .last .1 .1 .1 .1 .1 .0) (c .drop-pass .result) (closing c) (now (a .rows)) (now (a .visits)) (s .pre) (c .drop-pass .ensures))
+loop-less c = let e = c .before .before .before .part-end .ensures in let h = e .later in let w = e .within in omega arith
 
 loop-again : tie.Need-loop-again Inv-loop μ-loop
 loop-again c =
-    let s = start (head c .before) in
+    let found = c .before .before .before in
+    let l = found .before .before .loop in
+    let s = found .before .before .before .before .before .before .before .before in
     let a = s .args in
-    closing-more (programIn (now (a .file))) (now (a .truth)) (now (a .backing)) (filled (head c .before)) (head c .loop .falses)
-    (c .drop-pass .last .1 .1 .1 .1 .1 .0) (c .drop-pass .result) (closing c) (now (a .rows)) (now (a .visits)) (s .pre) (c .drop-pass .ensures)
+    let e = found .part-end .ensures in
+    let w = e .within in (
+      omega arith,
+      (
+        l .inv .1 .0,
+        (
+          parts-more (entries-visited (s .pre)) e (l .inv .1 .1 .1) (l .inv .1 .1 .0) (c .drop-part .ensures),
+          apart-end 1 (now (a .rows)) (now (a .visits)) (l .start) (found .part-end .result) (entries-parted (s .pre)) e,
+        ),
+      ),
+    )
 
 returns : tie.Need-returns Inv-loop μ-loop
 returns c =
+    let l = c .before .loop in
     let begun = c .before .before in
-    let s = start begun in
-    let a = s .args in
-    let done =
-    closing-done (programIn (now (a .file))) (now (a .truth)) (now (a .backing)) (filled begun) (c .before .loop .falses)
-    (rw (c .loop-test .left) at (c .before .loop .inv)) in
-    let e = visits-judged (s .pre) in
-    record {
-      at = done .at;
-      beyond = record { at = λ o h. done .beyond .at o h ∙ begun .fill-words .ensures .0 .beyond .at o (omega arith) };
-    }
+    let s = begun .before .before .before .before .before in
+    let e : l .start ≡ length (now (s .args .visits)) = omega arith in
+    closing-done (s .pre) (begun .fill-words .ensures .0) (rw e at (l .inv .1 .1 .0))
 
 pub close-false-spec : {M : Type 1} → statement M
 close-false-spec =
@@ -94,7 +99,12 @@ close-false-spec =
     μ-loop
     fill-words-requires
     loop-holds
-    drop-pass-requires
+    part-end-requires
+    mul-drop-part
+    sub-drop-part
+    part-drop-part-start
+    part-drop-part-end
+    drop-part-requires
     loop-less
     loop-again
     returns)

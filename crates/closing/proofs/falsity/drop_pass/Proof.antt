@@ -3,20 +3,21 @@
 use borrow.Author.Needs.{needs}
 use mathlib.Core.Path.{_≡_, refl}
 use mathlib.Core.Logic.{⊎-elim}
-use Prim.Native.Nat.{_≤_, _-_}
+use Prim.Native.Nat.{_≤_, _<_, _-_}
 use native.Mathlib.Omega.{arith}
 use denote.Ref.{now}
 use lib.ListN.{length}
+use Rattle.literals.specs.Numbering.{judged}
 use Rattle.papers.specs.Reading.{programIn}
-use Rattle.closing.specs.FalseWords.{objectiveIn, Dropped, DroppedTo}
-use Rattle.closing.proofs.EntriesVisited.{entry-visited, objective-within}
+use Rattle.parts.specs.Parts.{headAt}
+use Rattle.closing.specs.FalseWords.{Dropped, DroppedTo}
 use Rattle.closing.proofs.DroppedLaws.{dropped-none, dropped-less, dropped-same}
 use Rattle.closing.proofs.falsity.drop_pass.Statement.{statement}
 use Rattle.closing.proofs.falsity.drop_pass.Tie as tie
 
 abbrev Inv-loop : tie.InvT-loop
 Inv-loop file rows visits truth backing falses₀ count changed₀ i₀ falses changed i =
-    (i ≤ count) × ((count ≡ length visits) × DroppedTo (objectiveIn rows visits) i (programIn file) truth backing falses₀ falses changed)
+    (i ≤ count) × ((count ≡ length visits) × DroppedTo (headAt rows visits) i (programIn file) truth backing falses₀ falses changed)
 
 abbrev μ-loop : tie.MeasureT-loop
 μ-loop file rows visits truth backing falses₀ count changed₀ i₀ falses changed i = count - i
@@ -28,18 +29,24 @@ loop-holds c =
       omega arith,
       (
         refl,
-        dropped-none (programIn (now (a .file))) (now (a .truth)) (now (a .backing)) (now (a .falses)) (objectiveIn (now (a .rows)) (now (a .visits)))
+        dropped-none (programIn (now (a .file))) (now (a .truth)) (now (a .backing)) (now (a .falses)) (headAt (now (a .rows)) (now (a .visits)))
             (s .pre .1),
       ),
     )
 
-number-in-requires : tie.Need-number-in-requires Inv-loop μ-loop
-number-in-requires c κs = search needs
+mul-place-of : tie.Need-mul-place-of Inv-loop μ-loop
+mul-place-of c = search needs
+
+shared-slice-read-place-of : tie.Need-shared-slice-read-place-of Inv-loop μ-loop
+shared-slice-read-place-of c = search needs
+
+place-of-requires : tie.Need-place-of-requires Inv-loop μ-loop
+place-of-requires c κs = search needs
 
 drop-entry-requires : tie.Need-drop-entry-requires Inv-loop μ-loop
 drop-entry-requires c κs =
-    let s = c .before .before .before .before .before .before .before in
-    rw (c .before .number-in .ensures .0) (entry-visited (s .pre .0) (c .before .before .before .loop .i) (omega arith))
+    let s = c .before .before .before .before .before .before .before .before in
+    rw (c .before .place-of .ensures) (s .pre .0 .at (c .before .before .before .before .loop .i) (omega arith))
 
 add-i : tie.Need-add-i Inv-loop μ-loop
 add-i c = search needs
@@ -49,16 +56,16 @@ loop-less c = search needs
 
 loop-again : tie.Need-loop-again Inv-loop μ-loop
 loop-again c =
-    let l = c .before .before .before .before .before .loop in
-    let s = c .before .before .before .before .before .before .before .before .before in
+    let l = c .before .before .before .before .before .before .loop in
+    let s = c .before .before .before .before .before .before .before .before .before .before in
     let a = s .args in
     let p = programIn (now (a .file)) in
-    let visited = objectiveIn (now (a .rows)) (now (a .visits)) in
+    let visited = headAt (now (a .rows)) (now (a .visits)) in
     let after = c .before .drop-entry .last .1 .1 .1 .1 .1 .0 in
     let moved = c .before .drop-entry .result in
-    let within = objective-within (s .pre .0) (l .i) (omega arith) in
+    let within : visited (l .i) < judged (p .atoms) = unfold headAt in (s .pre .0 .at (l .i) (omega arith) .within) in
     let one : Dropped p (visited (l .i)) (now (a .truth)) (now (a .backing)) (l .falses) after moved =
-    unfold objectiveIn in (rw (c .before .before .before .number-in .ensures .0) at (c .before .drop-entry .ensures)) in (
+    unfold headAt in (rw (c .before .before .before .place-of .ensures) at (c .before .drop-entry .ensures)) in (
       omega arith,
       (
         refl,
@@ -89,7 +96,9 @@ drop-pass-spec =
     Inv-loop
     μ-loop
     loop-holds
-    number-in-requires
+    mul-place-of
+    shared-slice-read-place-of
+    place-of-requires
     drop-entry-requires
     add-i
     loop-less

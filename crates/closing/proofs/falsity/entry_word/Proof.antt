@@ -4,7 +4,7 @@
 use borrow.Author.Needs.{needs}
 use mathlib.Core.Path.{_≡_, refl, ap, _∙_}
 use mathlib.Core.List.{List}
-use Prim.Native.Nat.{ℕ, _+_, _-_, _≤_}
+use Prim.Native.Nat.{ℕ, _+_, _-_, _/_, _≤_}
 use native.Mathlib.Omega.{arith}
 use denote.Ref.{now}
 use lib.ListN.{length, getD, take, drop}
@@ -50,16 +50,16 @@ module _ (c : tie.Else1 Inv-loop μ-loop) where
 
 -- Its literals are a part of the rows.
 module _ (c : tie.After-number-in2 Inv-loop μ-loop) where
-  sized : c .number-in2 .result ≡ length (stands (c .before) .clause)
-  sized = c .number-in2 .ensures .0 ∙ stands (c .before) .size
+  sized : c .number-in2 .result / 2 ≡ length (stands (c .before) .clause)
+  sized = let e = c .number-in2 .ensures .0 in let z = stands (c .before) .size in omega arith
 
-  whole : at (c .before) + 1 + c .number-in2 .result ≤ length (rows (c .before))
+  whole : at (c .before) + 1 + c .number-in2 .result / 2 ≤ length (rows (c .before))
   whole = let e = sized in let w = stands (c .before) .within in omega arith
 
-  part : take (at (c .before) + 1 + c .number-in2 .result - (at (c .before) + 1)) (drop (at (c .before) + 1) (rows (c .before)))
+  part : take (at (c .before) + 1 + c .number-in2 .result / 2 - (at (c .before) + 1)) (drop (at (c .before) + 1) (rows (c .before)))
       ≡ stands (c .before) .clause
   part =
-      let n : at (c .before) + 1 + c .number-in2 .result - (at (c .before) + 1) ≡ length (stands (c .before) .clause) = let e = sized in omega arith in
+      let n : at (c .before) + 1 + c .number-in2 .result / 2 - (at (c .before) + 1) ≡ length (stands (c .before) .clause) = let e = sized in omega arith in
       ap (λ (k : ℕ). take k (drop (at (c .before) + 1) (rows (c .before)))) n ∙ stands (c .before) .part
 
 add-end : tie.Need-add-end Inv-loop μ-loop
@@ -129,7 +129,8 @@ loop-again c =
     let l = found .before .before .before .loop in
     entry-to-more (programIn (now (a .file))) (now (a .rows)) (a .place) (now (a .truth)) (now (a .falses)) (a .lanes) (s .pre)
     (a .place + 2 + found .before .before .before .before .number-in .result) (l .at) (l .word) (l .inv) (omega arith)
-    (l .at + 1 + found .number-in2 .result) (c .clause-word .result) (ap (λ (k : ℕ). l .at + 1 + k) (found .number-in2 .ensures .0)) (c .clause-word .ensures)
+    (l .at + 1 + found .number-in2 .result / 2) (c .clause-word .result) (ap (λ (k : ℕ). l .at + 1 + k / 2) (found .number-in2 .ensures .0))
+    (c .clause-word .ensures)
 
 returns-2 : tie.Need-returns-2 Inv-loop μ-loop
 returns-2 c =

@@ -22,13 +22,19 @@ abbrev μ-loop : tie.MeasureT-loop
 loop-holds : tie.Need-loop-holds Inv-loop μ-loop
 loop-holds c = (omega arith, (search needs, begun))
 
-number-in-requires : tie.Need-number-in-requires Inv-loop μ-loop
-number-in-requires c κs = search needs
+mul-place-of : tie.Need-mul-place-of Inv-loop μ-loop
+mul-place-of c = search needs
+
+shared-slice-read-place-of : tie.Need-shared-slice-read-place-of Inv-loop μ-loop
+shared-slice-read-place-of c = search needs
+
+place-of-requires : tie.Need-place-of-requires Inv-loop μ-loop
+place-of-requires c κs = search needs
 
 close-rule-requires : tie.Need-close-rule-requires Inv-loop μ-loop
 close-rule-requires c κs =
-    let s = c .before .before .before .before .before .before in
-    rw (c .before .number-in .ensures .0) (s .pre .at (c .before .before .before .loop .i) (omega arith))
+    let l = c .before .before .before .before in
+    rw (c .before .place-of .ensures) (l .before .before .before .pre .at (l .loop .i) (omega arith))
 
 add-i : tie.Need-add-i Inv-loop μ-loop
 add-i c = search needs
@@ -38,10 +44,11 @@ loop-less c = search needs
 
 loop-again : tie.Need-loop-again Inv-loop μ-loop
 loop-again c =
-    let l = c .before .before .before .before .before .loop in
-    let a = c .before .before .before .before .before .before .before .before .args in
+    let head = c .before .before .before .before .before .before in
+    let l = head .loop in
+    let a = head .before .before .before .args in
     let here = rule-visited (now (a .rows)) (now (a .visits)) (l .i) (omega arith) in
-    let one = rw (c .before .before .before .number-in .ensures .0, ← here) at (c .before .close-rule .ensures) in (
+    let one = rw (c .before .before .before .place-of .ensures, ← here) at (c .before .close-rule .ensures) in (
       omega arith,
       (
         l .inv .1 .0,
@@ -66,7 +73,9 @@ close-pass-spec =
     Inv-loop
     μ-loop
     loop-holds
-    number-in-requires
+    mul-place-of
+    shared-slice-read-place-of
+    place-of-requires
     close-rule-requires
     add-i
     loop-less

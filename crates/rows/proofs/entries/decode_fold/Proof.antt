@@ -4,7 +4,7 @@ use borrow.Author.Needs.{needs}
 use native.Mathlib.Omega.{arith}
 use mathlib.Core.Path.{_≡_, refl, sym, ap, _∙_}
 use mathlib.Core.List.{List}
-use Prim.Native.Nat.{ℕ, _+_, _-_, _/_, _≤_}
+use Prim.Native.Nat.{ℕ, _+_, _-_, _*_, _/_, _≤_}
 use lib.ListN.{length, take, drop, length-drop, length-set}
 use denote.Ref.{now}
 use Rattle.papers.specs.Field.{numbers, sizeOf}
@@ -69,11 +69,14 @@ part-listed-end c = omega (arith, sized c, start c .pre .0 .whole, length-drop (
 add-first : tie.Need-add-first
 add-first c = search needs
 
+mul-numbers : tie.Need-mul-numbers
+mul-numbers c = search needs
+
 cast-numbers : tie.Need-cast-numbers
 cast-numbers c = search needs
 
-mul-numbers : tie.Need-mul-numbers
-mul-numbers c = search needs
+mul-numbers-2 : tie.Need-mul-numbers-2
+mul-numbers-2 c = search needs
 
 slice-write-numbers : tie.Need-slice-write-numbers
 slice-write-numbers c = search needs
@@ -83,7 +86,7 @@ copy-numbers-requires c κs =
     let w = c .before .before in
     let a = start w .args in
     let n = ap length (listed w) in
-    let k = length-set (now (a .numbers)) (a .at) (length (part w) / 2) in
+    let k = length-set (now (a .numbers)) (a .at) (2 * (length (part w) / 2)) in
     omega (arith, start w .pre .1)
 
 add-end : tie.Need-add-end
@@ -93,7 +96,7 @@ same-length : tie.Need-same-length
 same-length c =
     let w = c .before .before .before .before .before in
     let a = start w .args in
-    c .before .before .copy-numbers .kept .1 .0 ∙ length-set (now (a .numbers)) (a .at) (length (part w) / 2)
+    c .before .before .copy-numbers .kept .1 .0 ∙ length-set (now (a .numbers)) (a .at) (2 * (length (part w) / 2))
 
 returns : tie.Need-returns
 returns c =
@@ -121,8 +124,9 @@ decode-fold-spec =
     part-listed-start
     part-listed-end
     add-first
-    cast-numbers
     mul-numbers
+    cast-numbers
+    mul-numbers-2
     slice-write-numbers
     copy-numbers-requires
     add-end
