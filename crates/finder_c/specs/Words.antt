@@ -9,7 +9,7 @@ use Rattle.papers.specs.declared.Paper.the-variants.{File, Sheet}
 use Rattle.papers.specs.Told.{Told, tells, refusedBy, refusedAt}
 use Rattle.judging.specs.Judging.{Verdict}
 use Rattle.steps.specs.declared.Record.{Record}
-use Rattle.search.specs.declared.Report.{Report}
+use Rattle.trying.specs.declared.Report.{Report}
 use Rattle.steps.specs.declared.State.{State}
 use Rattle.steps.specs.declared.State.the-variants.{Going, Full, Ended}
 

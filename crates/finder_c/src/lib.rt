@@ -18,9 +18,9 @@ use papers::Paper;
 use papers::PapersRead;
 use papers::Refusal;
 use search::Continued;
-use search::Report;
 use steps::Record;
 use steps::State;
+use trying::Report;
 
 fn paper_number(paper: Paper) -> u64
     ensures { λ r. ⌜ r ≡ paperNumber paper ⌝ }

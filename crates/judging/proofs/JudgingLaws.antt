@@ -1,45 +1,20 @@
--- Judging from its parts: the first lane's verdict and bytes, and a law for each of its answers.
+-- Judging from its parts: a law for each of its answers.
 -- Assumes nothing.
-use mathlib.Core.Path.{_≡_, sym, ap, ap₂, _∙_}
+use mathlib.Core.Path.{_≡_, ap, ap₂, _∙_}
+use mathlib.Core.Bool.{Bool}
 use mathlib.Core.List.{List}
-use Prim.Native.Nat.{ℕ, _+_, _*_, _%_, _<_, _≤_}
-use native.Mathlib.Omega.{arith}
+use Prim.Native.Nat.{ℕ, _<_, _≤_}
 use borrow.Author.Tests.{lt-ltb, le-ltb}
-use lib.Dec.{eqb}
-use lib.ListN.{length, getD}
+use lib.ListN.{length}
 use Rattle.literals.specs.Numbering.{judged}
 use Rattle.papers.specs.declared.Refusal.{Refusal}
-use Rattle.papers.specs.Program.{Program, Query}
 use Rattle.papers.specs.Outcome.{Outcome, accepted, refused}
 use Rattle.papers.specs.Reading.{Papers}
 use Rattle.dual.specs.Bytes.{dualOf, filled}
-use Rattle.model.specs.Model.{rounds, valueBytes, modelBytes, explains}
-use Rattle.lanes.specs.Lanes.{lane}
-use Rattle.settling.specs.RoundLanes.{SettledLanes}
-use Rattle.settling.specs.VerdictLanes.{VerdictLanes}
+use Rattle.model.specs.Model.{rounds, modelBytes, explains}
 use Rattle.judging.specs.declared.Judged.{Judged}
 use Rattle.judging.specs.declared.Judged.the-variants.{Verdict, ShortDual, ShortModel, NoScenario, Refused}
 use Rattle.judging.specs.Judging.{scenarioCount, judgedTold, hindrance, judgeTold, dualJudged, modelJudged}
-use Rattle.judging.proofs.ValueLaws.{first-lane, first-bytes}
-
--- ---- the first lane
-
-pub first-verdict : (p : Program) (q : Query) (s w : ℕ) (counts : List ℕ) → VerdictLanes p q s w counts
-    → Verdict (eqb (w % 2) 1) (getD counts 0 0) ≡ Verdict (explains p q s) (rounds p s)
-first-verdict p q s w counts v =
-    ap₂ Verdict
-    (first-lane w ∙ v .explained 0 (omega arith) ∙ ap (explains p q) here)
-    (v .counted 0 (omega arith) ∙ ap (rounds p) here)
-  where
-    here : s + 0 ≡ s
-    here = omega arith
-
-pub first-filled : (p : Program) (s n : ℕ) (trues falses counts before after : List ℕ) → p .atoms ≡ n → SettledLanes p s trues falses counts
-    → after ≡ filled (valueBytes (lane (2 * n + 1) 0 trues) (lane (2 * n + 1) 0 falses)) before → after ≡ filled (modelBytes p s) before
-first-filled p s n trues falses counts before after e l h =
-    h
-    ∙ ap (λ (x : ℕ). filled (valueBytes (lane (2 * x + 1) 0 trues) (lane (2 * x + 1) 0 falses)) before) (sym e)
-    ∙ ap (λ (x : List ℕ). filled x before) (first-bytes p s trues falses counts l)
 
 -- ---- the answers
 
@@ -80,12 +55,12 @@ module _ (q : Papers) {read : Outcome Papers} (is : read ≡ accepted q) (s : �
           (rw (is, x, y, z), (rw (is, x, y, z) e, rw (is, x, y, z)))
 
       -- None of them.
-      pub judged-done : s < scenarioCount (q .program) → dual′ ≡ filled (dualOf (q .program)) dual → {r : Judged} {model′ : List ℕ}
-          → r ≡ Verdict (explains (q .program) (q .query) s) (rounds (q .program) s) → model′ ≡ filled (modelBytes (q .program) s) model
-          → Judges read s dual model r dual′ model′
+      pub judged-done : s < scenarioCount (q .program) → dual′ ≡ filled (dualOf (q .program)) dual → {e : Bool} {n : ℕ} {model′ : List ℕ}
+          → e ≡ explains (q .program) (q .query) s → n ≡ rounds (q .program) s → model′ ≡ filled (modelBytes (q .program) s) model
+          → Judges read s dual model (Verdict e n) dual′ model′
       unfolding judgedTold judgeTold hindrance
-      judged-done h e v m =
+      judged-done h e v n m =
           let x = le-ltb (length dual) (length (dualOf (q .program))) fits in
           let y = le-ltb (length model) (judged (q .program .atoms)) room in
           let z = lt-ltb s (scenarioCount (q .program)) h in
-          (ap judgedTold v ∙ rw (is, x, y, z), (rw (is, x, y, z) e, rw (is, x, y, z) m))
+          (ap judgedTold (ap₂ Verdict v n) ∙ rw (is, x, y, z), (rw (is, x, y, z) e, rw (is, x, y, z) m))

@@ -1,5 +1,4 @@
 -- Judging from its parts.
-pub mod ValueLaws
 pub mod JudgingLaws
 -- What is told of an answer fixes it.
 pub mod ToldLaws

@@ -1,16 +1,13 @@
 // Judging one scenario of two papers.
-mod accepted;
-mod values;
-
 ghost use mathlib.Core.Path.{_≡_};
 ghost use lib.ListN.{length};
 ghost use Rattle.papers.specs.Reading.{readPapers};
 ghost use Rattle.judging.specs.Judging.{judgedTold, judgeTold, dualJudged, modelJudged};
-use accepted::judge_accepted;
 use dual_writer::DualWritten;
 use model::scenario_count;
 use papers::PapersRead;
 use papers::Refusal;
+use valuation::judge_accepted;
 
 // What judging answers: verdict and rounds, or document 01's refusals 11, 12 and 13, or one of the papers'.
 pub enum Judged {
@@ -49,7 +46,7 @@ pub fn judge(file: &[u8], sheet: &[u8], scenario: u32, dual: &mut [u8], model: &
         return Judged::NoScenario;
     }
     let end = 3 + 2 * literals;
-    judge_accepted(
+    let verdict = judge_accepted(
         file,
         contents,
         &places,
@@ -57,5 +54,9 @@ pub fn judge(file: &[u8], sheet: &[u8], scenario: u32, dual: &mut [u8], model: &
         &sheet[3..end],
         scenario,
         model,
-    )
+    );
+    Judged::Verdict {
+        explains: verdict.explains,
+        rounds: verdict.rounds,
+    }
 }

@@ -11,12 +11,13 @@ use Rattle.papers.specs.Reading.{Papers}
 use Rattle.papers.specs.Told.{tells}
 use Rattle.dual.specs.Bytes.{dualOf}
 use Rattle.search.specs.declared.Continued.the-variants.{Reported}
-use Rattle.search.specs.declared.Report.{Report as CallReport}
+use Rattle.trying.specs.declared.Report.{Report as CallReport}
 use Rattle.steps.specs.Scenarios.{Problem, scenarios, minimals, stop, sumBelow, roundsFrom}
 use Rattle.steps.specs.Continuing.{Report, reportOf, continue, stateBy}
 use Rattle.steps.specs.Spoilt.{spoilt}
 use Rattle.steps.specs.Calls.{answer, report}
-use Rattle.search.specs.Searching.{problemOf, callOf, toldReport, continuedTold, continueTold, listContinued}
+use Rattle.trying.specs.Trying.{problemOf, toldReport}
+use Rattle.search.specs.Searching.{callOf, continuedTold, continueTold, listContinued}
 use Rattle.steps.proofs.Stopping.{stop-le}
 use Rattle.steps.proofs.Sums.{sum-rounds, sum-bound}
 use Rattle.steps.proofs.Canonical.{recordAt, listAt, workAt, listAt-found, listAt-length, continue-at}

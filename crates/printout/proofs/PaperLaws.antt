@@ -21,7 +21,7 @@ use Rattle.dual.proofs.Lengths.{dual-length}
 use Rattle.dual.proofs.Bound.{dual-bound}
 use Rattle.model.proofs.Rounds.{rounds-le}
 use Rattle.steps.specs.Scenarios.{Problem, scenarios}
-use Rattle.search.specs.Searching.{problemOf}
+use Rattle.trying.specs.Trying.{problemOf}
 use Rattle.printout.specs.Search.{problemFor}
 
 pub problem-is : {read : Outcome Papers} {q : Papers} → read ≡ accepted q → problemFor read ≡ problemOf q

@@ -12,7 +12,7 @@ use Rattle.papers.specs.Outcome.{Outcome, accepted}
 use Rattle.papers.specs.Reading.{Papers}
 use Rattle.steps.specs.Scenarios.{Problem, scenarios, minimals, stop, sumBelow}
 use Rattle.steps.specs.Spoilt.{allBelow}
-use Rattle.search.specs.Searching.{problemOf}
+use Rattle.trying.specs.Trying.{problemOf}
 use Rattle.steps.proofs.Tests.{left, right}
 use Rattle.steps.proofs.Stopping.{stop-le, stop-count}
 use Rattle.steps.proofs.Sound.{minimals-below}

@@ -5,7 +5,7 @@ use lib.ListN.{length}
 use Rattle.papers.specs.Outcome.{Outcome, accepted, refused}
 use Rattle.papers.specs.Reading.{Papers}
 use Rattle.steps.specs.Scenarios.{scenarios, minimals, stop, sumBelow}
-use Rattle.search.specs.Searching.{problemOf}
+use Rattle.trying.specs.Trying.{problemOf}
 use Rattle.report.specs.Lines.{headingLine, foundLine, lastLine, refusedLine}
 use Rattle.printout.specs.Search.{lastState}
 

@@ -13,7 +13,7 @@ use Rattle.steps.specs.declared.State.{State}
 use Rattle.steps.specs.declared.State.the-variants.{Going, Full, Ended}
 use Rattle.steps.specs.Scenarios.{Problem, scenarios, minimals, stop, sumBelow}
 use Rattle.steps.specs.Continuing.{stateBy}
-use Rattle.search.specs.Searching.{problemOf}
+use Rattle.trying.specs.Trying.{problemOf}
 use Rattle.printout.specs.declared.searching.Progress.{Progress}
 
 -- Both papers are accepted.

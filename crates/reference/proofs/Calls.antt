@@ -12,7 +12,7 @@ use Rattle.dual.specs.Encoding.{encodeDual}
 use Rattle.literals.specs.Numbering.{falsum}
 use Rattle.model.specs.Model.{modelBytes, rounds, explains}
 use Rattle.steps.specs.Continuing.{fresh, continue}
-use Rattle.search.specs.Searching.{problemOf}
+use Rattle.trying.specs.Trying.{problemOf}
 use Rattle.reference.specs.Programs.{example21, example21Dual, example31, contradiction, contradictionAllowed, queryD}
 use Rattle.reference.specs.Programs.{example32, figureP0, figureP3, figureP4, figureQ8, figureQ11}
 use Rattle.reference.proofs.Example21.{accepted21, length21, dual21}

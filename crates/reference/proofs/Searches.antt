@@ -8,7 +8,7 @@ use Rattle.papers.specs.Reading.{Papers, readPapers}
 use Rattle.papers.specs.Encoding.{encodeFile, encodeSheet}
 use Rattle.steps.specs.declared.State.the-variants.{Ended}
 use Rattle.steps.specs.Continuing.{Report, fresh, continue}
-use Rattle.search.specs.Searching.{problemOf}
+use Rattle.trying.specs.Trying.{problemOf}
 use Rattle.reference.specs.Programs.{example32, figureP0, figureP3, figureP4, figureQ8, figureQ11}
 use Rattle.reference.specs.Computing.{computing}
 

@@ -14,12 +14,13 @@ use Rattle.papers.specs.Told.{tells}
 use Rattle.papers.proofs.PapersAnswers.{BothTold}
 use Rattle.dual.specs.Bytes.{dualOf, filled}
 use Rattle.dual_writer.proofs.BothPapers.{papersIn, scenarios-are}
-use Rattle.search.specs.declared.Report.{Report}
+use Rattle.trying.specs.declared.Report.{Report}
 use Rattle.search.specs.declared.Continued.the-variants.{Reported, ShortDual, SpoiltSearch, Refused}
 use Rattle.steps.specs.declared.Record.{Record}
 use Rattle.steps.specs.Continuing.{continue}
 use Rattle.steps.specs.Spoilt.{spoiltBy, spoilt}
-use Rattle.search.specs.Searching.{problemOf, callOf, toldReport, continuedTold, continueTold, Answers}
+use Rattle.trying.specs.Trying.{problemOf, toldReport}
+use Rattle.search.specs.Searching.{callOf, continuedTold, continueTold, Answers}
 use Rattle.steps.proofs.Calling.{answer-refused, answer-spoilt, answer-made}
 
 -- ---- the papers

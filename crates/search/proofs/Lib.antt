@@ -1,8 +1,5 @@
 -- Calls over a file and a sheet, that what is told of an answer fixes it (`ToldLaws`), and the pause theorem of `continue_search`
 -- (`SearchPause`).
-pub mod Batches
-pub mod JudgedLanes
-pub mod CallLaws
 pub mod AnswerLaws
 pub mod ToldLaws
 pub mod SearchPause

@@ -16,7 +16,8 @@ use Rattle.steps.specs.declared.Record.{Record}
 use Rattle.steps.specs.Continuing.{fresh}
 use Rattle.steps.specs.Calls.{Call, Answer, refusal, report, answer, recordAfter, listAfter, first, calls}
 use Rattle.steps.specs.Demand.{isRefused, isRefusal, Demand}
-use Rattle.search.specs.Searching.{problemOf, toldBy, continueTold, bufferBy, recordContinued}
+use Rattle.trying.specs.Trying.{problemOf}
+use Rattle.search.specs.Searching.{toldBy, continueTold, bufferBy, recordContinued}
 use Rattle.search.specs.SearchCalls.{Lent, made, firstMade, searchCalls, refusedMade, callFor, answered, answerFor, calledBy}
 use Rattle.search.specs.SearchCalls.{numberOf, dualLeft, numberFor, dualFor, SearchDemand, SearchClaim}
 use Rattle.steps.proofs.Pause.{pause}

@@ -6,7 +6,7 @@ use Rattle.papers.specs.declared.Bare.the-variants as bare
 use Rattle.papers.specs.Outcome.{refusal}
 use Rattle.papers.specs.Told.{Told, tells, refusedBy, refusedAt, bareTold, refusalTold}
 use Rattle.papers.proofs.ToldLaws.{bareFrom, told-of, told-fixes}
-use Rattle.search.specs.declared.Report.{Report}
+use Rattle.trying.specs.declared.Report.{Report}
 use Rattle.search.specs.declared.Continued.{Continued}
 use Rattle.search.specs.declared.Continued.the-variants.{Reported, ShortDual, SpoiltSearch, Refused}
 use Rattle.search.specs.Searching.{continuedTold}

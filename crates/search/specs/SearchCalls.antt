@@ -11,12 +11,13 @@ use Rattle.papers.specs.Outcome.{Outcome, accepted, refused}
 use Rattle.papers.specs.Reading.{Papers, readPapers}
 use Rattle.papers.specs.Told.{Told, tells, refusedBy, refusedAt, bareNumber, numberTold, refusalTold}
 use Rattle.dual.specs.Bytes.{dualOf, filled}
-use Rattle.search.specs.declared.Report.{Report}
+use Rattle.trying.specs.declared.Report.{Report}
 use Rattle.steps.specs.declared.Record.{Record}
 use Rattle.steps.specs.Continuing.{fresh}
 use Rattle.steps.specs.Calls.{Call, Answer, refusal, report, Called, roundsBy}
 use Rattle.steps.specs.Demand.{Demand}
-use Rattle.search.specs.Searching.{problemOf, callOf, continueTold, dualContinued, listContinued, recordContinued}
+use Rattle.trying.specs.Trying.{problemOf}
+use Rattle.search.specs.Searching.{callOf, continueTold, dualContinued, listContinued, recordContinued}
 
 -- "Allowance and dual buffer are each call's own."
 pub record Lent : Type 0 where

@@ -1,6 +1,4 @@
 // The search for minimal explanations.
-mod searching;
-
 ghost use mathlib.Core.Path.{_≡_};
 ghost use lib.ListN.{length};
 ghost use Rattle.papers.specs.declared.PapersRead.{PapersRead};
@@ -13,18 +11,10 @@ use model::scenario_count;
 use papers::Contents;
 use papers::PapersRead;
 use papers::Refusal;
-use searching::search_accepted;
 use spoilt::is_spoilt;
 use steps::Record;
-use steps::State;
-
-// What a call reports: the new record, the scenarios tried and their rounds, and the state.
-pub struct Report {
-    pub new: Record,
-    pub tried: u32,
-    pub rounds: u64,
-    pub state: State,
-}
+use trying::Report;
+use trying::search_accepted;
 
 // What continuing answers: its report, or document 01's refusals 11 and 14, or one of the papers'.
 pub enum Continued {

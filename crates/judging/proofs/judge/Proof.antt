@@ -260,7 +260,7 @@ returns-6 c =
     let p = taken w in
     let a = start p .args in
     judged-done (papers p) (read p) (a .scenario) (now (a .dual)) (now (a .model))
-    (fits passed) (large w (big passed)) (there w (within passed)) (dual-is passed) (ensured .0) (ensured .1)
+    (fits passed) (large w (big passed)) (there w (within passed)) (dual-is passed) (ensured .0) (ensured .1 .0) (ensured .1 .1)
 
 pub judge-spec : {M : Type 1} → statement M
 judge-spec =

@@ -10,7 +10,7 @@ use lib.ListN.{length, take, drop, length-take}
 use Rattle.papers.specs.Field.{numbers}
 use Rattle.papers.specs.Reading.{readPapers}
 use Rattle.papers.proofs.NumberLaws.{Bytes}
-use Rattle.search.specs.Searching.{problemOf}
+use Rattle.trying.specs.Trying.{problemOf}
 use Rattle.printout.specs.Search.{AcceptedAs, problemFor}
 use Rattle.printout.specs.Output.{foundLines}
 use Rattle.printout.proofs.PaperLaws.{problem-is, small, program-valid, abducibles-below, listed-are, few-listed, atoms-told, listed-within, listed-there}

@@ -15,7 +15,7 @@ use Rattle.dual_writer.proofs.BothPapers.{other-told, dual-fits, dual-short, du
 use Rattle.rows.specs.DualBytes.{DualStarts}
 use Rattle.rows.proofs.EntryBytes.{filled-starts}
 use Rattle.steps.specs.Spoilt.{spoilt}
-use Rattle.search.specs.Searching.{problemOf}
+use Rattle.trying.specs.Trying.{problemOf}
 use Rattle.search.proofs.AnswerLaws.{spoilt-is, answers-short, answers-spoilt, answers-report}
 use Rattle.search.proofs.continue_accepted.Statement.{statement}
 use Rattle.search.proofs.continue_accepted.Tie as tie

@@ -12,7 +12,7 @@ use lib.ListN.{length}
 use Rattle.papers.specs.Reading.{readPapers}
 use Rattle.papers.specs.Told.{Told}
 use Rattle.dual.specs.Bytes.{dualOf}
-use Rattle.search.specs.declared.Report.{Report}
+use Rattle.trying.specs.declared.Report.{Report}
 use Rattle.search.specs.Searching.{continuedTold, continueTold}
 use Rattle.search.proofs.Continued.{the-type}
 use Rattle.search.proofs.ToldLaws.{reported-told}

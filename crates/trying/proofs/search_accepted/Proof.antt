@@ -1,0 +1,39 @@
+-- `trying::search_accepted` meets its contract: no step is none.
+-- Assumes nothing.
+use mathlib.Core.Path.{ap, _∙_}
+use Prim.Native.Nat.{ℕ}
+use borrow.Author.Needs.{needs}
+use denote.Ref.{now}
+use Rattle.papers.specs.Field.{numbers}
+use Rattle.steps.specs.Continuing.{steps, begun}
+use Rattle.steps.proofs.Runs.{steps-zero}
+use Rattle.trying.specs.Trying.{problemIn}
+use Rattle.trying.proofs.CallLaws.{call-told, call-list}
+use Rattle.trying.proofs.search_accepted.Statement.{statement}
+use Rattle.trying.proofs.search_accepted.Tie as tie
+
+report-of-requires : tie.Need-report-of-requires
+report-of-requires c κs = search needs
+
+returns : tie.Need-returns
+returns c =
+    let s = c .before .before .before .before .before .before in
+    let a = s .args in
+    let P = problemIn (now (a .file)) (numbers (now (a .query))) in
+    let work = begun (a .from) (now (a .list)) in
+    let ran = ap (λ (n : ℕ). steps P n work) (c .before .if1 .taken) ∙ steps-zero P work in (
+      c .report-of .ensures ∙ call-told P (s .pre .scenarios) (a .from) (now (a .list)) (a .allowance) ran,
+      call-list P (s .pre .scenarios) (a .from) (now (a .list)) (a .allowance) ran,
+    )
+
+search-decoded-requires : tie.Need-search-decoded-requires
+search-decoded-requires c κs = search needs
+
+same-length : tie.Need-same-length
+same-length c = search needs
+
+returns-2 : tie.Need-returns-2
+returns-2 c = search needs
+
+pub search-accepted-spec : {M : Type 1} → statement M
+search-accepted-spec = tie.close (tie.spec report-of-requires returns search-decoded-requires same-length returns-2)

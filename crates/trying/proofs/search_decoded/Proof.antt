@@ -1,0 +1,211 @@
+-- `trying::search_decoded` meets its contract: the papers are decoded, and searched.
+-- Assumes nothing.
+use mathlib.Core.Path.{_≡_, refl, _∙_}
+use mathlib.Core.List.{List}
+use Prim.Native.Nat.{ℕ, _+_, _-_, _/_, _≤_, _<_}
+use native.Mathlib.Omega.{arith}
+use borrow.Author.Needs.{needs}
+use denote.Ref.{now}
+use lib.ListN.{length, take, drop, replicate}
+use Rattle.literals.specs.Numbering.{judged}
+use Rattle.papers.specs.Reading.{programIn}
+use Rattle.papers.specs.Field.{numbers}
+use Rattle.papers.proofs.FileFacts.{atoms-are, few-atoms}
+use Rattle.papers.proofs.FoldAnswers.{rules-counted, few-folds}
+use Rattle.settling.specs.VerdictLanes.{Prepared}
+use Rattle.settling.proofs.PreparedLaws.{numbers-counted, query-part, papers-decoded}
+use Rattle.trying.specs.Trying.{problemIn}
+use Rattle.trying.proofs.CallLaws.{unspoilt-kept, call-told, call-list}
+use Rattle.trying.proofs.search_decoded.Statement.{statement}
+use Rattle.trying.proofs.search_decoded.Tie as tie
+
+-- The allowance has 32 bits.
+allowed : (s : tie.Start) → s .args .allowance < 4294967296
+allowed s = omega arith
+
+-- ---- the places
+
+abbrev start : tie.After-prepare → tie.Start
+start c = c .before .before .before .before .before .before .before .before .before
+
+abbrev prepared : tie.After-copy-numbers → tie.After-prepare
+prepared c = c .before .before .before .before .before .before
+
+-- ---- once all is decoded
+
+module _ (c : tie.After-judged) where
+  abbrev copied : tie.After-copy-numbers
+  copied = c .before .before .before .before .before .before
+
+  abbrev made : tie.After-prepare
+  made = prepared copied
+
+  abbrev begun : tie.Start
+  begun = start made
+
+  abbrev file : List ℕ
+  file = now (begun .args .file)
+
+  abbrev query : List ℕ
+  query = now (begun .args .query)
+
+  abbrev folds : ℕ
+  folds = begun .args .contents .rules .count + begun .args .contents .integrity .count
+
+  folds-few : folds ≤ 1280
+  folds-few = few-folds file (begun .args .contents) (begun .pre .prepared .walked .answer)
+
+  judged-is : c .judged .result ≡ judged ((programIn file) .atoms)
+  judged-is = rw (atoms-are file (begun .args .contents) (begun .pre .prepared .walked .answer)) (c .judged .ensures)
+
+  judged-few : c .judged .result ≤ 513
+  judged-few = omega (arith, c .judged .ensures, few-atoms file (begun .args .contents) (begun .pre .prepared .walked .answer))
+
+  query-few : length query / 2 ≤ 16
+  query-few = omega (arith, numbers-counted query, begun .pre .prepared .asked .few)
+
+  abbrev asked : List ℕ
+  asked = copied .copy-numbers .last .1 .0
+
+  query-is : take (length query / 2 - 0) (drop 0 asked) ≡ numbers query
+  query-is = query-part query (replicate 16 0) asked (length query / 2) refl (copied .copy-numbers .ensures)
+
+  abbrev visits : List ℕ
+  visits = made .prepare .last .1 .1 .1 .1 .1 .0
+
+  abbrev turns : List ℕ
+  turns = made .prepare .last .1 .1 .1 .1 .1 .1 .1 .0
+
+  decoded : Prepared file (begun .args .contents) (made .prepare .last .1 .1 .1 .1 .0) (take (folds - 0) (drop 0 visits))
+      (made .prepare .last .1 .1 .1 .1 .1 .1 .0) (take (c .judged .result - 0) (drop 0 turns)) (take (length query / 2 - 0) (drop 0 asked))
+  decoded =
+      let rows = made .prepare .ensures in
+      papers-decoded file (begun .args .contents) (now (begun .args .places)) (now (begun .args .dual)) query (begun .pre .prepared) folds (c .judged .result)
+      (length query / 2) (replicate 16 0) (rows .0) (rows .1) (rules-counted file (begun .args .contents) (begun .pre .prepared .walked .answer)) judged-is
+      refl (copied .copy-numbers .ensures)
+
+slice-aggregate-prepare : tie.Need-slice-aggregate-prepare
+slice-aggregate-prepare c = search needs
+
+slice-aggregate-prepare-2 : tie.Need-slice-aggregate-prepare-2
+slice-aggregate-prepare-2 c = search needs
+
+slice-aggregate-prepare-3 : tie.Need-slice-aggregate-prepare-3
+slice-aggregate-prepare-3 c = search needs
+
+slice-aggregate-prepare-4 : tie.Need-slice-aggregate-prepare-4
+slice-aggregate-prepare-4 c = search needs
+
+prepare-requires : tie.Need-prepare-requires
+prepare-requires c κs =
+    let sound = c .before .before .before .before .before .before .before .before .pre .prepared in
+    (sound .walked, (sound .starts, (search needs, (search needs, (search needs, search needs)))))
+
+slice-aggregate-copy-numbers : tie.Need-slice-aggregate-copy-numbers
+slice-aggregate-copy-numbers c = search needs
+
+copy-numbers-requires : tie.Need-copy-numbers-requires
+copy-numbers-requires c κs = search needs
+
+add-folds : tie.Need-add-folds
+add-folds c =
+    let s = start (prepared (c .before .before .before .before .before)) in
+    omega (arith, few-folds (now (s .args .file)) (s .args .contents) (s .pre .prepared .walked .answer))
+
+judged-requires : tie.Need-judged-requires
+judged-requires c κs = search needs
+
+slice-aggregate-try-all : tie.Need-slice-aggregate-try-all
+slice-aggregate-try-all c = search needs
+
+sub-try-all : tie.Need-sub-try-all
+sub-try-all c = search needs
+
+part-try-all-start : tie.Need-part-try-all-start
+part-try-all-start c = search needs
+
+part-try-all-end : tie.Need-part-try-all-end
+part-try-all-end c = omega (arith, folds-few (c .before .before))
+
+slice-aggregate-try-all-2 : tie.Need-slice-aggregate-try-all-2
+slice-aggregate-try-all-2 c = search needs
+
+sub-try-all-2 : tie.Need-sub-try-all-2
+sub-try-all-2 c = search needs
+
+part-try-all-start-2 : tie.Need-part-try-all-start-2
+part-try-all-start-2 c = search needs
+
+part-try-all-end-2 : tie.Need-part-try-all-end-2
+part-try-all-end-2 c = omega (arith, judged-few (c .before .before .before .before .before))
+
+sub-try-all-3 : tie.Need-sub-try-all-3
+sub-try-all-3 c = search needs
+
+part-try-all-start-3 : tie.Need-part-try-all-start-3
+part-try-all-start-3 c = search needs
+
+part-try-all-end-3 : tie.Need-part-try-all-end-3
+part-try-all-end-3 c = omega (arith, query-few (c .before .before .before .before .before .before .before))
+
+try-all-requires : tie.Need-try-all-requires
+try-all-requires c κs =
+    let known = c .before .before .before .before .before .before .before .before .before in
+    let a = begun known .args in
+    let sound = begun known .pre in
+    let P = problemIn (now (a .file)) (numbers (now (a .query))) in (
+      record {
+        prepared = decoded known;
+        scenarios = sound .scenarios;
+        kept = unspoilt-kept P (sound .scenarios) (a .from) (now (a .list)) (sound .unspoilt);
+        room = omega (arith, allowed (begun known));
+      },
+      refl,
+    )
+
+report-of-requires : tie.Need-report-of-requires
+report-of-requires c κs = search needs
+
+same-length : tie.Need-same-length
+same-length c = search needs
+
+returns : tie.Need-returns
+returns c =
+    let tried = c .before .before .before in
+    let known = tried .before .before .before .before .before .before .before .before .before .before in
+    let a = begun known .args in
+    let P = problemIn (now (a .file)) (numbers (now (a .query))) in
+    let ran = rw (query-is known) at (tried .try-all .ensures .is) in
+    let scenarios = begun known .pre .scenarios in (
+      c .report-of .ensures ∙ call-told P scenarios (a .from) (now (a .list)) (a .allowance) ran,
+      call-list P scenarios (a .from) (now (a .list)) (a .allowance) ran,
+    )
+
+pub search-decoded-spec : {M : Type 1} → statement M
+search-decoded-spec =
+    tie.close
+    (tie.spec
+    slice-aggregate-prepare
+    slice-aggregate-prepare-2
+    slice-aggregate-prepare-3
+    slice-aggregate-prepare-4
+    prepare-requires
+    slice-aggregate-copy-numbers
+    copy-numbers-requires
+    add-folds
+    judged-requires
+    slice-aggregate-try-all
+    sub-try-all
+    part-try-all-start
+    part-try-all-end
+    slice-aggregate-try-all-2
+    sub-try-all-2
+    part-try-all-start-2
+    part-try-all-end-2
+    sub-try-all-3
+    part-try-all-start-3
+    part-try-all-end-3
+    try-all-requires
+    report-of-requires
+    same-length
+    returns)

@@ -1,0 +1,256 @@
+// A call over accepted papers: up to 64 scenarios judged at a time, and tried one by one.
+ghost use mathlib.Core.Path.{_≡_};
+ghost use Prim.Native.Nat.{_≤_};
+ghost use Rattle.papers.specs.Field.{numbers};
+ghost use Rattle.steps.specs.Continuing.{stateBy, continue};
+ghost use Rattle.stepping.specs.Stepping.{Batch, Tried};
+ghost use Rattle.trying.specs.Trying.{problemIn, toldReport, reportBy, Ready, Passed};
+use papers::Contents;
+use rows::numbers::copy_numbers;
+use rows::prepare;
+use settling::verdicts::judge_lanes;
+use stepping::Progress;
+use stepping::try_lanes;
+use steps::Record;
+use steps::State;
+
+// What a call reports: the new record, the scenarios tried and their rounds, and the state.
+pub struct Report {
+    pub new: Record,
+    pub tried: u32,
+    pub rounds: u64,
+    pub state: State,
+}
+
+// How many scenarios to judge next.
+fn batch_size(tried: u32, allowance: u32, position: u32, total: u32) -> u32
+    requires { ⌜ (tried ≤ allowance) × (position ≤ total) ⌝ }
+    ensures { λ r. ⌜ Batch tried allowance position total r ⌝ }
+{
+    let allowed = allowance - tried;
+    let left = total - position;
+    if allowed < left {
+        if allowed < 64 {
+            return allowed;
+        }
+        return 64;
+    }
+    if left < 64 {
+        return left;
+    }
+    64
+}
+
+// The next scenarios, judged together.
+fn try_batch(
+    file: &[u8],
+    contents: Contents,
+    rules: &[u16],
+    rule_visits: &[u16],
+    entries: &[u16],
+    entry_visits: &[u16],
+    query: &[u16],
+    list: &mut [u32],
+    total: u32,
+    count: u32,
+    before: Progress,
+) -> Progress
+    requires { ⌜ Ready (now file) contents (now rules) (now «rule_visits») (now entries) (now «entry_visits») (now query) total count before
+        (now list) × (count ≤ 64) ⌝ }
+    ensures { λ r. ⌜ Tried (problemIn (now (file .entry)) (now (query .entry))) total count before (now (list .entry)) r (now (list .exit)) ⌝ }
+{
+    let verdicts = judge_lanes(
+        file,
+        contents,
+        rules,
+        rule_visits,
+        entries,
+        entry_visits,
+        query,
+        before.position as u64,
+    );
+    let explained = verdicts.explained;
+    let rounds = verdicts.rounds;
+    try_lanes(
+        list,
+        contents.abducibles,
+        total,
+        explained,
+        &rounds,
+        count as usize,
+        before,
+    )
+}
+
+// All that a call tries.
+fn try_all(
+    file: &[u8],
+    contents: Contents,
+    rules: &[u16],
+    rule_visits: &[u16],
+    entries: &[u16],
+    entry_visits: &[u16],
+    query: &[u16],
+    list: &mut [u32],
+    total: u32,
+    allowance: u32,
+    before: Progress,
+) -> Progress
+    requires { ⌜ Ready (now file) contents (now rules) (now «rule_visits») (now entries) (now «entry_visits») (now query) total allowance before
+        (now list) × (before .tried ≡ 0) ⌝ }
+    ensures { λ r. ⌜ Tried (problemIn (now (file .entry)) (now (query .entry))) total allowance before (now (list .entry)) r (now (list .exit)) ⌝ }
+{
+    let mut reached = before;
+    let mut count = batch_size(0, allowance, reached.position, total);
+    while count > 0 {
+        let aim = reached.tried + count;
+        reached = try_batch(
+            file,
+            contents,
+            rules,
+            rule_visits,
+            entries,
+            entry_visits,
+            query,
+            list,
+            total,
+            count,
+            reached,
+        );
+        if reached.tried < aim {
+            return reached;
+        }
+        count = batch_size(aim, allowance, reached.position, total);
+    }
+    reached
+}
+
+// The state that a call reports, where there are `total` scenarios.
+fn state_of(total: u32, allowance: u32, position: u32, tried: u32) -> State
+    ensures { λ r. ⌜ r ≡ stateBy total allowance position tried ⌝ }
+{
+    if position == total {
+        return State::Ended;
+    }
+    if tried < allowance {
+        return State::Full;
+    }
+    State::Going
+}
+
+// What a call reports that came so far.
+fn report_of(total: u32, allowance: u32, reached: Progress) -> Report
+    ensures { λ r. ⌜ r ≡ reportBy total allowance reached ⌝ }
+{
+    let state = state_of(total, allowance, reached.position, reached.tried);
+    Report {
+        new: Record {
+            position: reached.position,
+            found: reached.found,
+        },
+        tried: reached.tried,
+        rounds: reached.rounds,
+        state,
+    }
+}
+
+// A call on a record and a list that pass test 14: the papers are decoded, and their scenarios tried.
+fn search_decoded(
+    file: &[u8],
+    contents: Contents,
+    places: &[usize; 1280],
+    dual: &[u8],
+    query: &[u8],
+    list: &mut [u32],
+    total: u32,
+    from: Record,
+    allowance: u32,
+) -> Report
+    requires { ⌜ Passed (now file) contents (now places) (now dual) (now query) total from (now list) ⌝ }
+    ensures { λ r. ⌜
+        (r ≡ toldReport (continue (problemIn (now (file .entry)) (numbers (now (query .entry)))) allowance from (now (list .entry))))
+        × (now (list .exit) ≡ (continue (problemIn (now (file .entry)) (numbers (now (query .entry)))) allowance from (now (list .entry))) .list)
+        ⌝ }
+{
+    let mut rules = [0u16; 23040];
+    let mut rule_visits = [0u16; 1280];
+    let mut entries = [0u16; 28000];
+    let mut entry_visits = [0u16; 513];
+    let mut asked = [0u16; 16];
+    prepare(
+        file,
+        contents,
+        places,
+        dual,
+        &mut rules,
+        &mut rule_visits,
+        &mut entries,
+        &mut entry_visits,
+    );
+    copy_numbers(query, &mut asked, 0);
+    let listed = contents.rules;
+    let integrity = contents.integrity;
+    let folds = listed.count + integrity.count;
+    let judged = literals::judged(contents.atoms);
+    let size = query.len() / 2;
+    let before = Progress {
+        position: from.position,
+        found: from.found,
+        tried: 0,
+        rounds: 0,
+    };
+    let reached = try_all(
+        file,
+        contents,
+        &rules,
+        &rule_visits[0..folds],
+        &entries,
+        &entry_visits[0..judged],
+        &asked[0..size],
+        list,
+        total,
+        allowance,
+        before,
+    );
+    report_of(total, allowance, reached)
+}
+
+// The same; where nothing may be tried, nothing is decoded.
+pub fn search_accepted(
+    file: &[u8],
+    contents: Contents,
+    places: &[usize; 1280],
+    dual: &[u8],
+    query: &[u8],
+    list: &mut [u32],
+    total: u32,
+    from: Record,
+    allowance: u32,
+) -> Report
+    requires { ⌜ Passed (now file) contents (now places) (now dual) (now query) total from (now list) ⌝ }
+    ensures { λ r. ⌜
+        (r ≡ toldReport (continue (problemIn (now (file .entry)) (numbers (now (query .entry)))) allowance from (now (list .entry))))
+        × (now (list .exit) ≡ (continue (problemIn (now (file .entry)) (numbers (now (query .entry)))) allowance from (now (list .entry))) .list)
+        ⌝ }
+{
+    if allowance == 0 {
+        let before = Progress {
+            position: from.position,
+            found: from.found,
+            tried: 0,
+            rounds: 0,
+        };
+        return report_of(total, allowance, before);
+    }
+    search_decoded(
+        file,
+        contents,
+        places,
+        dual,
+        query,
+        list,
+        total,
+        from,
+        allowance,
+    )
+}

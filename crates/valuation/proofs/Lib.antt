@@ -1,0 +1,3 @@
+-- One scenario over accepted papers.
+pub mod ValueLaws
+pub mod FirstLane
