@@ -38,7 +38,12 @@ ends-part-requires : tie.Need-ends-part-requires Inv-loop μ-loop
 ends-part-requires c κs = search needs
 
 returns : tie.Need-returns Inv-loop μ-loop
-returns c = record { later = omega arith; within = omega arith; marked = λ h. sym (c .before .ends-part .ensures) ∙ c .if1 .taken; first = c .before .before .before .before .loop .inv .2 }
+returns c = record {
+  later = omega arith;
+  within = omega arith;
+  marked = λ h. sym (c .before .ends-part .ensures) ∙ c .if1 .taken;
+  first = c .before .before .before .before .loop .inv .2;
+}
 
 add-end-2 : tie.Need-add-end-2 Inv-loop μ-loop
 add-end-2 c = search needs
