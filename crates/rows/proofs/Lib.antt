@@ -8,7 +8,5 @@ mod DecodedLaws
 pub mod EntryBytes
 mod FoldRows
 mod EntryRows
--- Both decoded and ordered.
-mod PreparedLaws
 -- A row that stands at a place.
 pub mod StandLaws

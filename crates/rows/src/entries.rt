@@ -122,7 +122,7 @@ fn decode_entry(
 }
 
 // The entries of all objective literals, falsum's last, and where each row starts.
-pub(crate) fn decode_dual(
+pub fn decode_dual(
     file: &[u8],
     dual: &[u8],
     count: usize,

@@ -37,7 +37,7 @@ fn decode_rule(
 }
 
 // All of them by their fold numbers, and where each row starts.
-pub(crate) fn decode_rules(
+pub fn decode_rules(
     file: &[u8],
     contents: Contents,
     places: &[usize; 1280],

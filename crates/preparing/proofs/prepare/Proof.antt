@@ -1,4 +1,4 @@
--- `rows::prepare` meets its contract.
+-- `preparing::prepare` meets its contract.
 -- Assumes nothing.
 use borrow.Author.Needs.{needs}
 use native.Mathlib.Omega.{arith}
@@ -13,11 +13,11 @@ use Rattle.papers.specs.Reading.{programIn}
 use Rattle.parts.specs.Parts.{Unmarked}
 use Rattle.papers.proofs.FileFacts.{atoms-are}
 use Rattle.papers.proofs.FoldAnswers.{rules-counted, few-folds}
 use Rattle.rows.specs.Rows.{ruleRows, entryRows, joined}
 use Rattle.rows.proofs.RowLaws.{rule-rows-count, rule-rows-bound, entry-rows-count, entry-rows-bound}
-use Rattle.rows.proofs.PreparedLaws.{visits-unmarked, rows-prepared}
-use Rattle.rows.proofs.prepare.Statement.{statement}
-use Rattle.rows.proofs.prepare.Tie as tie
+use Rattle.preparing.proofs.PreparedLaws.{visits-unmarked, rows-prepared}
+use Rattle.preparing.proofs.prepare.Statement.{statement}
+use Rattle.preparing.proofs.prepare.Tie as tie
 
 -- ---- what the file says
 
