@@ -1,2 +1,2 @@
 -- Rows that are decoded, ordered and marked.
-mod PreparedLaws
+mod RowsPrepared

@@ -12,8 +12,9 @@ use Rattle.papers.specs.Places.{BodyOf}
 use Rattle.papers.proofs.Lists.{set-more}
 use Rattle.papers.proofs.Walking.{count-numbers}
 use Rattle.dual.specs.Bytes.{filled}
-use Rattle.rows.specs.Rows.{ruleRow, joined, laid, Starts}
-use Rattle.rows.proofs.LaidLaws.{laid-first, laid-none, laid-part, laid-row}
+use Rattle.copying.specs.Laid.{laid}
+use Rattle.rows.specs.Rows.{ruleRow, joined, Starts}
+use Rattle.copying.proofs.LaidLaws.{laid-first, laid-none, laid-part, laid-row}
 use Rattle.rows.proofs.RowLaws.{joined-more, row-within}
 
 -- The first k rows are decoded.

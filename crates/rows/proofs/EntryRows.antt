@@ -17,9 +17,10 @@ use Rattle.papers.proofs.Lists.{drop-after}
 use Rattle.dual.specs.Table.{foldsOf, hasEntry, foldField}
 use Rattle.dual.specs.Encoding.{encodeFields}
 use Rattle.dual.specs.Bytes.{dualOf}
-use Rattle.rows.specs.Rows.{clausesRow, clausesOf, entryRow, laid}
+use Rattle.copying.specs.Laid.{laid}
+use Rattle.rows.specs.Rows.{clausesRow, clausesOf, entryRow}
 use Rattle.rows.specs.DualBytes.{literalIn, FieldStands, bytesFrom, EntriesAt, FoldsAt}
-use Rattle.rows.proofs.LaidLaws.{laid-none, laid-one, laid-row-late}
+use Rattle.copying.proofs.LaidLaws.{laid-none, laid-one, laid-row-late}
 use Rattle.rows.proofs.RowLaws.{entry-row-length}
 use Rattle.rows.proofs.EntryBytes.{opens-stands, bytes-open, bytes-none, bytes-entry, entry-told, none-told}
 

@@ -17,9 +17,10 @@ use Rattle.papers.proofs.Walking.{count-numbers}
 use Rattle.dual.specs.Table.{foldsOf, foldField}
 use Rattle.dual.specs.Encoding.{encodeFields}
 use Rattle.dual.specs.Bytes.{dualOf}
-use Rattle.rows.specs.Rows.{clausesRow, clauseOf, clausesOf, joined, laid}
+use Rattle.copying.specs.Laid.{laid}
+use Rattle.rows.specs.Rows.{clausesRow, clauseOf, clausesOf, joined}
 use Rattle.rows.specs.DualBytes.{listedIn, FoldStands, bytesFrom, EntriesAt, FoldsAt}
-use Rattle.rows.proofs.LaidLaws.{laid-none, laid-part, laid-after}
+use Rattle.copying.proofs.LaidLaws.{laid-none, laid-part, laid-after}
 use Rattle.rows.proofs.RowLaws.{joined-more, row-within}
 use Rattle.rows.proofs.EntryBytes.{fold-size, fold-listed, fold-stands}
 

@@ -1,6 +1,3 @@
--- Numbers laid in an array, and copied into it from bytes.
-pub mod LaidLaws
-mod CopyLaws
 -- Rows: one after the other, how many and how long, and decoded one by one.
 pub mod RowLaws
 mod DecodedLaws

@@ -52,10 +52,6 @@ unfoldable pub joined : List (List ℕ) → List ℕ
 joined [] = []
 joined (row ∷ more) = row ++ joined more
 
--- An array in which numbers are laid from a place on; what stands before and after them stays.
-unfoldable pub laid : ℕ → List ℕ → List ℕ → List ℕ
-laid at row before = filled (take at before ++ row) before
-
 -- Where each row starts; past the last the numbers stay.
 pub record Starts (rows : List (List ℕ)) (before after : List ℕ) : Type 0 where
   pub at : (k : ℕ) → k < length rows → getD after k 0 ≡ length (joined (take k rows))

@@ -8,9 +8,10 @@ ghost use Rattle.papers.specs.Field.{sizeOf};
 ghost use Rattle.papers.specs.Reading.{programIn};
 ghost use Rattle.dual.specs.Table.{foldsOf};
 ghost use Rattle.dual.specs.Bytes.{filled};
-ghost use Rattle.rows.specs.Rows.{clausesRow, clausesOf, entryRow, entryRows, joined, laid, Starts};
+ghost use Rattle.copying.specs.Laid.{laid};
+ghost use Rattle.rows.specs.Rows.{clausesRow, clausesOf, entryRow, entryRows, joined, Starts};
 ghost use Rattle.rows.specs.DualBytes.{listedIn, FoldStands, literalIn, FieldStands, DualStarts, EntriesAt, FoldsAt};
-use crate::numbers::copy_numbers;
+use copying::copy_numbers;
 use literals::Objective;
 use numbered::number_at;
 use numbered::objective_at;
@@ -122,13 +123,7 @@ fn decode_entry(
 }
 
 // The entries of all objective literals, falsum's last, and where each row starts.
-pub fn decode_dual(
-    file: &[u8],
-    dual: &[u8],
-    count: usize,
-    numbers: &mut [u16],
-    starts: &mut [u16],
-)
+pub fn decode_dual(file: &[u8], dual: &[u8], count: usize, numbers: &mut [u16], starts: &mut [u16])
     requires { ⌜ DualStarts (programIn (now file)) (now dual)
         × ((count ≡ judged ((programIn (now file)) .atoms)) × ((28000 ≤ length (now numbers)) × (513 ≤ length (now starts)))) ⌝ }
     ensures { λ _. ⌜ (now (numbers .exit) ≡ filled (joined (entryRows (programIn (now (file .entry))))) (now (numbers .entry)))

@@ -1,4 +1,3 @@
 // The rules and the dual as rows of numbers.
 pub mod entries;
-pub mod numbers;
 pub mod rules;

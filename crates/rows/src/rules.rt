@@ -6,8 +6,9 @@ ghost use Rattle.papers.specs.Program.{allRules, ruleAt};
 ghost use Rattle.papers.specs.Reading.{programIn};
 ghost use Rattle.papers.specs.Places.{Walked};
 ghost use Rattle.dual.specs.Bytes.{filled};
-ghost use Rattle.rows.specs.Rows.{ruleRow, ruleRows, joined, laid, Starts};
-use crate::numbers::copy_numbers;
+ghost use Rattle.copying.specs.Laid.{laid};
+ghost use Rattle.rows.specs.Rows.{ruleRow, ruleRows, joined, Starts};
+use copying::copy_numbers;
 use literals::Fold;
 use papers::Contents;
 

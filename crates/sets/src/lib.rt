@@ -1,5 +1,4 @@
-// Sets of 64 lanes, written into lent rows: complemented, joined, filled, replaced, and what backs a false literal.
-pub mod backing;
+// Sets of 64 lanes, written into lent rows: complemented, joined, filled, replaced.
 pub mod changes;
 
 ghost use mathlib.Core.Path.{_≡_};

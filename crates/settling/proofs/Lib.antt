@@ -1,5 +1,3 @@
--- A round of 64 scenarios by its seeds and what backs a false literal, rounds until none changes a lane, and the verdicts.
+-- A round of 64 scenarios by its seeds and what backs a false literal, and rounds until none changes a lane.
 mod RoundLaws
 mod SettlingLaws
-pub mod VerdictLaws
-pub mod PreparedLaws

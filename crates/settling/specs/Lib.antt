@@ -1,3 +1,2 @@
--- Rounds and verdicts in 64 lanes.
+-- Rounds in 64 lanes.
 pub mod RoundLanes
-pub mod VerdictLanes

@@ -1,5 +1,4 @@
-// Rounds: T, P and F of 64 scenarios, from one pair to the next, and what the scenarios come to.
-pub mod verdicts;
+// Rounds: T, P and F of 64 scenarios, from one pair to the next until none changes.
 
 ghost use mathlib.Core.Path.{_≡_};
 ghost use mathlib.Core.Bool.{cond};
@@ -12,13 +11,13 @@ ghost use Rattle.papers.specs.Answers.{fileAnswer};
 ghost use Rattle.closing.specs.FalseWords.{EntriesStand};
 ghost use Rattle.lanes.specs.Lanes.{inLane, NoneBeyond};
 ghost use Rattle.settling.specs.RoundLanes.{Decoded, RulesIn, NextTrue, NextFalse, MadeIf, MarkedLanes, SettledLanes, HeldLanes};
+use backing::backing_words;
 use closing::falsity::close_false;
 use closing::truth::close_true;
 use digits::abducible_lanes;
 use lanes::words::in_lane;
 use lanes::words::lent_known;
 use papers::Contents;
-use sets::backing::backing_words;
 use sets::changes::replace_words;
 use sets::complement_words;
 use sets::join_words;

@@ -6,7 +6,7 @@ use Prim.Native.Nat.{ℕ, _+_, _≤_, _<_}
 use native.Mathlib.Omega.{arith}
 use lib.ListN.{length, getD}
 use Rattle.papers.specs.Program.{Program, Query}
-use Rattle.settling.specs.VerdictLanes.{VerdictLanes}
+use Rattle.verdicts.specs.VerdictLanes.{VerdictLanes}
 use Rattle.model.proofs.Rounds.{rounds-le}
 use Rattle.stepping.specs.Stepping.{InLanes}
 use Rattle.trying.specs.Trying.{problemOf}

@@ -8,7 +8,7 @@ use Rattle.papers.specs.declared.Contents.{Contents}
 use Rattle.papers.specs.Program.{Query}
 use Rattle.papers.specs.Reading.{programIn, Papers}
 use Rattle.model.specs.Model.{rounds, explains}
-use Rattle.settling.specs.VerdictLanes.{PapersStand, Prepared}
+use Rattle.verdicts.specs.VerdictLanes.{PapersStand, Prepared}
 use Rattle.trying.specs.declared.Report.{Report as CallReport}
 use Rattle.stepping.specs.declared.Progress.{Progress}
 use Rattle.steps.specs.Scenarios.{Problem}

@@ -5,14 +5,14 @@ ghost use Rattle.papers.specs.Field.{numbers};
 ghost use Rattle.steps.specs.Continuing.{stateBy, continue};
 ghost use Rattle.stepping.specs.Stepping.{Batch, Tried};
 ghost use Rattle.trying.specs.Trying.{problemIn, toldReport, reportBy, Ready, Passed};
+use copying::copy_numbers;
 use papers::Contents;
 use preparing::prepare;
-use rows::numbers::copy_numbers;
-use settling::verdicts::judge_lanes;
 use stepping::Progress;
 use stepping::try_lanes;
 use steps::Record;
 use steps::State;
+use verdicts::judge_lanes;
 
 // What a call reports: the new record, the scenarios tried and their rounds, and the state.
 pub struct Report {

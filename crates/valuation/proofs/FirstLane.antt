@@ -11,7 +11,7 @@ use Rattle.dual.specs.Bytes.{filled}
 use Rattle.model.specs.Model.{rounds, valueBytes, modelBytes, explains}
 use Rattle.lanes.specs.Lanes.{lane}
 use Rattle.settling.specs.RoundLanes.{SettledLanes}
-use Rattle.settling.specs.VerdictLanes.{VerdictLanes}
+use Rattle.verdicts.specs.VerdictLanes.{VerdictLanes}
 use Rattle.valuation.proofs.ValueLaws.{first-lane, first-bytes}
 
 module _ (p : Program) (q : Query) (s w : ℕ) (counts : List ℕ) (v : VerdictLanes p q s w counts) where

@@ -9,13 +9,13 @@ ghost use Rattle.papers.specs.Field.{numbers};
 ghost use Rattle.papers.specs.Reading.{programIn};
 ghost use Rattle.dual.specs.Bytes.{filled};
 ghost use Rattle.model.specs.Model.{rounds, modelBytes, explains};
-ghost use Rattle.settling.specs.VerdictLanes.{PapersStand, Prepared};
+ghost use Rattle.verdicts.specs.VerdictLanes.{PapersStand, Prepared};
+use copying::copy_numbers;
 use papers::Contents;
 use preparing::prepare;
-use rows::numbers::copy_numbers;
 use settling::settle;
-use settling::verdicts::explained_lanes;
 use values::write_values;
+use verdicts::explained_lanes;
 
 // Whether the scenario is an explanation, and the round count of its model.
 pub struct Verdict {

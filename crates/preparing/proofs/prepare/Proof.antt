@@ -15,7 +15,7 @@ use Rattle.papers.proofs.FileFacts.{atoms-are}
 use Rattle.papers.proofs.FoldAnswers.{rules-counted, few-folds}
 use Rattle.rows.specs.Rows.{ruleRows, entryRows, joined}
 use Rattle.rows.proofs.RowLaws.{rule-rows-count, rule-rows-bound, entry-rows-count, entry-rows-bound}
-use Rattle.preparing.proofs.PreparedLaws.{visits-unmarked, rows-prepared}
+use Rattle.preparing.proofs.RowsPrepared.{visits-unmarked, rows-prepared}
 use Rattle.preparing.proofs.prepare.Statement.{statement}
 use Rattle.preparing.proofs.prepare.Tie as tie
 

@@ -12,8 +12,8 @@ use Rattle.papers.specs.Reading.{programIn}
 use Rattle.papers.specs.Field.{numbers}
 use Rattle.papers.proofs.FileFacts.{atoms-are, few-atoms}
 use Rattle.papers.proofs.FoldAnswers.{rules-counted, few-folds}
-use Rattle.settling.specs.VerdictLanes.{Prepared}
-use Rattle.settling.proofs.PreparedLaws.{numbers-counted, query-part, papers-decoded}
+use Rattle.verdicts.specs.VerdictLanes.{Prepared}
+use Rattle.verdicts.proofs.PapersDecoded.{numbers-counted, query-part, papers-decoded}
 use Rattle.valuation.proofs.judge_accepted.Statement.{statement}
 use Rattle.valuation.proofs.judge_accepted.Tie as tie
 

@@ -7,8 +7,8 @@ use native.Mathlib.Omega.{arith}
 use denote.Ref.{now}
 use Rattle.papers.specs.Reading.{programIn}
 use Rattle.papers.proofs.FileFacts.{atoms-are, few-atoms}
-use Rattle.settling.specs.VerdictLanes.{ExplainedWord}
-use Rattle.settling.proofs.VerdictLaws.{query-listed, verdict-lanes}
+use Rattle.verdicts.specs.VerdictLanes.{ExplainedWord}
+use Rattle.verdicts.proofs.VerdictLaws.{query-listed, verdict-lanes}
 use Rattle.valuation.proofs.FirstLane.{first-explained, first-counted, first-filled}
 use Rattle.valuation.proofs.judge_decoded.Statement.{statement}
 use Rattle.valuation.proofs.judge_decoded.Tie as tie

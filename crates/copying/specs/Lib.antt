@@ -1,0 +1,2 @@
+-- Numbers laid in an array.
+pub mod Laid

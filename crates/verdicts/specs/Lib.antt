@@ -1,0 +1,2 @@
+-- Verdicts in 64 lanes.
+pub mod VerdictLanes

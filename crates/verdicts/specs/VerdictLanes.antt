@@ -1,0 +1,46 @@
+-- The verdicts of sixty-four scenarios at once. p is a program, q a query.
+use mathlib.Core.Path.{_≡_}
+use mathlib.Core.Bool.{not}
+use mathlib.Core.List.{List}
+use Prim.Native.Nat.{ℕ, _+_, _<_}
+use lib.ListN.{getD}
+use Rattle.literals.specs.Numbering.{judged, falsum}
+use Rattle.papers.specs.declared.Contents.{Contents}
+use Rattle.papers.specs.Program.{Program, Query}
+use Rattle.papers.specs.Valid.{ValidBody}
+use Rattle.papers.specs.declared.FileRead.the-variants.{Accepted}
+use Rattle.papers.specs.Reading.{readFile, programIn}
+use Rattle.papers.specs.Answers.{fileAnswer}
+use Rattle.papers.specs.Field.{numbers}
+use Rattle.papers.specs.Places.{Walked}
+use Rattle.rows.specs.DualBytes.{DualStarts}
+use Rattle.model.specs.Tests.{_and_}
+use Rattle.model.specs.Sets.{has}
+use Rattle.model.specs.LeastSet.{bodyHolds}
+use Rattle.model.specs.Model.{rounds, explains}
+use Rattle.lanes.specs.Lanes.{inLane, lane}
+use Rattle.settling.specs.RoundLanes.{Decoded}
+
+-- Accepted papers with the places of their folds, the dual in its buffer, and the query as a part of the sheet.
+pub record PapersStand (file : List ℕ) (contents : Contents) (places dual query : List ℕ) : Type 0 where
+  pub walked : Walked file contents places
+  pub starts : DualStarts (programIn file) dual
+  pub asked : ValidBody ((programIn file) .atoms) (numbers query)
+
+-- The same decoded: the rules and the dual of the file and the query of the sheet as numbers.
+pub record Prepared (file : List ℕ) (contents : Contents) (rules rule-visits entries entry-visits query : List ℕ) : Type 0 where
+  pub answer : fileAnswer (readFile file) ≡ Accepted contents
+  pub decoded : Decoded (programIn file) rules rule-visits entries entry-visits
+  pub asked : ValidBody ((programIn file) .atoms) query
+
+-- The lanes in which falsum is false and not true, and each literal of the query holds.
+pub record ExplainedWord (n : ℕ) (query trues falses : List ℕ) (word : ℕ) : Type 0 where
+  pub at : (l : ℕ) → l < 64
+      → inLane l word
+      ≡ ((not (has (lane (judged n) l trues) (falsum n)) and has (lane (judged n) l falses) (falsum n))
+      and bodyHolds (lane (judged n) l trues) (lane (judged n) l falses) query)
+
+-- Which of the scenarios base + l are explanations, and their round counts.
+pub record VerdictLanes (p : Program) (q : Query) (base word : ℕ) (counts : List ℕ) : Type 0 where
+  pub explained : (l : ℕ) → l < 64 → inLane l word ≡ explains p q (base + l)
+  pub counted : (l : ℕ) → l < 64 → getD counts l 0 ≡ rounds p (base + l)
