@@ -63,7 +63,7 @@ fn is_abducible(file: &[u8], contents: Contents, o: Objective) -> bool
         return false;
     };
     let end = 12 + 2 * contents.abducibles;
-    fields::content::is_among(&file[12..end], atom)
+    content::is_among(&file[12..end], atom)
 }
 
 // The bytes of an objective literal's entry, 0 where it has none.
