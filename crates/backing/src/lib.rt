@@ -4,8 +4,8 @@ ghost use mathlib.Core.Path.{_≡_};
 ghost use Prim.Native.Nat.{_<_, _≤_};
 ghost use Rattle.literals.specs.Numbering.{judged};
 ghost use Rattle.lanes.specs.Lanes.{backingWord, Written};
+use conjugates::Conjugate;
 use lanes::words::lent_known;
-use literals::Conjugate;
 use literals::Objective;
 
 fn backing_word(trues: &[u64; 513], falses: &[u64; 513], atoms: u16, o: Objective) -> u64
@@ -13,7 +13,7 @@ fn backing_word(trues: &[u64; 513], falses: &[u64; 513], atoms: u16, o: Objectiv
     ensures { λ r. ⌜ r ≡ backingWord atoms (now (trues .entry)) (now (falses .entry)) (o .0) ⌝ }
 {
     let at = o.0;
-    let conjugate = literals::explicit_conjugate(o, atoms);
+    let conjugate = conjugates::explicit_conjugate(o, atoms);
     let Conjugate::Is(other) = conjugate else {
         return falses[at];
     };

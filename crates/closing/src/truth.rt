@@ -2,11 +2,11 @@
 ghost use lib.ListN.{length};
 ghost use Rattle.parts.specs.Parts.{placeOf, Parted};
 ghost use Rattle.closing.specs.Closing.{ruleIn, rulesIn, RuleStands, RulesStand, Raised, Passed, ClosedTrue};
+use decoded::number_in;
+use decoded::objective_in;
 use lanes::words::body_word;
 use lanes::words::lent_known;
 use lanes::words::other_lanes;
-use numbered::number_in;
-use numbered::objective_in;
 use parts::part_end;
 use parts::place_of;
 

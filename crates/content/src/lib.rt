@@ -5,8 +5,8 @@ ghost use Prim.Native.Nat.{_+_, _<_};
 ghost use lib.ListN.{length};
 ghost use Rattle.papers.specs.Field.{numbers};
 ghost use Rattle.papers.specs.Content.{abduciblesFault, literalsFault, isAmong, ruleFault, bodyFault};
+use conjugates::AtomOf;
 use literals::Atom;
-use literals::AtomOf;
 use numbered::atom_at;
 use numbered::literal_at;
 use numbered::objective_at;
@@ -66,7 +66,7 @@ fn rule_fault(content: &[u8], abducibles: &[u8], atoms: u16) -> u8
     requires { ⌜ 1 < length (now content) ⌝ }
     ensures { λ r. ⌜ r ≡ ruleFault atoms (numbers (now (abducibles .entry))) (numbers (now (content .entry))) ⌝ }
 {
-    let head = literals::atom_of(objective_at(content, 0), atoms);
+    let head = conjugates::atom_of(objective_at(content, 0), atoms);
     let AtomOf::Is(atom) = head else {
         return 6;
     };

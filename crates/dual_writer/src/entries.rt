@@ -18,7 +18,7 @@ ghost use Rattle.dual_writer.specs.Chains.{ChainsOf};
 use crate::chains::next_fold;
 use crate::writing::write_fold;
 use crate::writing::write_literal;
-use literals::AtomOf;
+use conjugates::AtomOf;
 use literals::Fold;
 use literals::Objective;
 use papers::Contents;
@@ -58,7 +58,7 @@ fn is_abducible(file: &[u8], contents: Contents, o: Objective) -> bool
     requires { ⌜ fileAnswer (readFile (now file)) ≡ FileRead.Accepted contents ⌝ }
     ensures { λ r. ⌜ r ≡ isAmong ((programIn (now (file .entry))) .abducibles) (atomNumber (o .0)) ⌝ }
 {
-    let owner = literals::atom_of(o, contents.atoms);
+    let owner = conjugates::atom_of(o, contents.atoms);
     let AtomOf::Is(atom) = owner else {
         return false;
     };

@@ -50,7 +50,7 @@ pub(crate) fn write_fold(buffer: &mut [u8], fold: Fold, body: &[u8]) -> usize
     let count = size / 2;
     let mut i: usize = 0;
     while i < count {
-        let conjugate = literals::default_conjugate(literal_at(body, 2 * i));
+        let conjugate = conjugates::default_conjugate(literal_at(body, 2 * i));
         put_number(buffer, 5 + 2 * i, conjugate.0);
         i += 1;
     }

@@ -3,8 +3,8 @@ ghost use mathlib.Core.Path.{_≡_};
 ghost use Prim.Native.Nat.{_<_};
 ghost use Rattle.lanes.specs.Lanes.{inLane};
 ghost use Rattle.lanes.specs.Words.{OtherLanes, wordOf, Below, Literals, BodyWord, Laned};
+use decoded::literal_in;
 use literals::Literal;
-use numbered::literal_in;
 
 // Whether lane l of a word is set.
 pub fn in_lane(word: u64, l: usize) -> bool

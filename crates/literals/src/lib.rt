@@ -2,9 +2,7 @@
 // Atoms and rules are counted in 16 bits, so that every number made of them fits a word and no function has a `requires`. The other three are as
 // wide as an index, so that each is one where its own array is read.
 ghost use mathlib.Core.Path.{_≡_};
-ghost use Rattle.literals.specs.Answers.{atomOf, conjugateOf, defaultNegationOf, literalOf};
-ghost use Rattle.literals.specs.Numbering.{positive, negative, explicitlyNegated, otherOfPair};
-ghost use Rattle.literals.specs.Numbering.{objectiveNumber, defaultNegated, defaultConjugate};
+ghost use Rattle.literals.specs.Numbering.{positive, negative, explicitlyNegated, objectiveNumber, defaultNegated};
 ghost use Rattle.literals.specs.Numbering.{falsum, listed, literalListed, judged, foldOfRule, foldOfIntegrity};
 
 pub struct Atom(pub u16);
@@ -14,22 +12,6 @@ pub struct Objective(pub usize);
 pub struct Literal(pub usize);
 
 pub struct Fold(pub usize);
-
-// What falsum has none of is answered by `Nothing`, and so is a number past it.
-pub enum AtomOf {
-    Is(Atom),
-    Nothing,
-}
-
-pub enum Conjugate {
-    Is(Objective),
-    Nothing,
-}
-
-pub enum LiteralOf {
-    Is(Literal),
-    Nothing,
-}
 
 // The atom itself, as an objective literal.
 pub fn positive(a: Atom) -> Objective
@@ -45,53 +27,10 @@ pub fn negative(a: Atom) -> Objective
     Objective(2 * (a.0 as usize) + 1)
 }
 
-pub fn atom_of(o: Objective, atoms: u16) -> AtomOf
-    ensures { λ r. ⌜ r ≡ atomOf atoms (o .0) ⌝ }
-{
-    if is_listed(o, atoms) {
-        AtomOf::Is(Atom((o.0 / 2) as u16))
-    } else {
-        AtomOf::Nothing
-    }
-}
-
 pub fn is_explicitly_negated(o: Objective) -> bool
     ensures { λ r. ⌜ r ≡ explicitlyNegated (o .0) ⌝ }
 {
     o.0 % 2 == 1
-}
-
-// An atom for its explicit negation, and back.
-pub fn explicit_conjugate(o: Objective, atoms: u16) -> Conjugate
-    ensures { λ r. ⌜ r ≡ conjugateOf atoms (o .0) ⌝ }
-{
-    if is_listed(o, atoms) {
-        Conjugate::Is(Objective(other_of_pair(o.0)))
-    } else {
-        Conjugate::Nothing
-    }
-}
-
-// The objective literal itself, as a literal.
-pub fn literal_of(o: Objective, atoms: u16) -> LiteralOf
-    ensures { λ r. ⌜ r ≡ literalOf atoms (o .0) ⌝ }
-{
-    if is_listed(o, atoms) {
-        LiteralOf::Is(Literal(2 * o.0))
-    } else {
-        LiteralOf::Nothing
-    }
-}
-
-// The literal not(o).
-pub fn default_negation(o: Objective, atoms: u16) -> LiteralOf
-    ensures { λ r. ⌜ r ≡ defaultNegationOf atoms (o .0) ⌝ }
-{
-    if is_listed(o, atoms) {
-        LiteralOf::Is(Literal(2 * o.0 + 1))
-    } else {
-        LiteralOf::Nothing
-    }
 }
 
 pub fn objective_of(l: Literal) -> Objective
@@ -104,13 +43,6 @@ pub fn is_default_negated(l: Literal) -> bool
     ensures { λ r. ⌜ r ≡ defaultNegated (l .0) ⌝ }
 {
     l.0 % 2 == 1
-}
-
-// The literal with its not added or removed.
-pub fn default_conjugate(l: Literal) -> Literal
-    ensures { λ r. ⌜ r .0 ≡ defaultConjugate (l .0) ⌝ }
-{
-    Literal(other_of_pair(l.0))
 }
 
 pub fn falsum(atoms: u16) -> Objective
@@ -151,11 +83,4 @@ pub fn is_literal_listed(l: Literal, atoms: u16) -> bool
     ensures { λ r. ⌜ r ≡ literalListed atoms (l .0) ⌝ }
 {
     l.0 < 4 * (atoms as usize)
-}
-
-// The one of 2k and 2k+1 that `x` is not. The greatest number is odd, so the sum fits.
-fn other_of_pair(x: usize) -> usize
-    ensures { λ r. ⌜ r ≡ otherOfPair x ⌝ }
-{
-    if x % 2 == 0 { x + 1 } else { x - 1 }
 }

@@ -1,7 +1,7 @@
 // The two-byte numbers of a paper, and those that are read as one of document 01's numberings: from here on their types tell them apart.
 ghost use mathlib.Core.Path.{_≡_};
 ghost use Prim.Native.Nat.{_+_, _<_};
-ghost use lib.ListN.{length, getD};
+ghost use lib.ListN.{length};
 ghost use Rattle.papers.specs.Field.{numberIn};
 use literals::Atom;
 use literals::Literal;
@@ -46,37 +46,4 @@ pub fn literal_at(bytes: &[u8], place: usize) -> Literal
     ensures { λ r. ⌜ (r .0 ≡ numberIn (now (bytes .entry)) place) × (r .0 < 65536) ⌝ }
 {
     Literal(number_at(bytes, place))
-}
-
-// ---- numbers that are decoded once a call
-
-// A number of a row, with its bound.
-fn whole(n: u16) -> usize
-    ensures { λ r. ⌜ (r ≡ n) × (r < 65536) ⌝ }
-{
-    n as usize
-}
-
-// The number at a place of a row.
-pub fn number_in(row: &[u16], place: usize) -> usize
-    requires { ⌜ place < length (now row) ⌝ }
-    ensures { λ r. ⌜ (r ≡ getD (now (row .entry)) place 0) × (r < 65536) ⌝ }
-{
-    whole(row[place])
-}
-
-// An objective literal: a rule's head, or what an entry is of.
-pub fn objective_in(row: &[u16], place: usize) -> Objective
-    requires { ⌜ place < length (now row) ⌝ }
-    ensures { λ r. ⌜ r .0 ≡ getD (now (row .entry)) place 0 ⌝ }
-{
-    Objective(number_in(row, place))
-}
-
-// A literal, of a body, a clause or a query.
-pub fn literal_in(row: &[u16], place: usize) -> Literal
-    requires { ⌜ place < length (now row) ⌝ }
-    ensures { λ r. ⌜ r .0 ≡ getD (now (row .entry)) place 0 ⌝ }
-{
-    Literal(number_in(row, place))
 }

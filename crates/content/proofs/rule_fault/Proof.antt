@@ -7,7 +7,7 @@ use Prim.Native.Nat.{ℕ, _*_, _/_, _<_}
 use Rattle.papers.specs.Field.{numbers}
 use Rattle.papers.specs.Content.{isAmong, literalsFault}
 use Rattle.papers.proofs.Walking.{to-end, rule-unlisted, rule-fixed, rule-body}
-use Rattle.literals.proofs.Laws.{atom-tells, no-atom-tells}
+use Rattle.conjugates.proofs.AnswerLaws.{atom-tells, no-atom-tells}
 use borrow.Author.Needs.{needs}
 use Rattle.content.proofs.rule_fault.Statement.{statement}
 use Rattle.content.proofs.rule_fault.Tie as tie

@@ -6,7 +6,7 @@ use Prim.Native.Nat.{ℕ, _+_, _-_, _*_, _/_, _≤_}
 use native.Mathlib.Omega.{arith}
 use denote.Ref.{now}
 use lib.ListN.{length, take, drop}
-use Rattle.literals.proofs.Laws.{atom-tells, no-atom-tells}
+use Rattle.conjugates.proofs.AnswerLaws.{atom-tells, no-atom-tells}
 use Rattle.papers.specs.Field.{numbers}
 use Rattle.papers.specs.Content.{isAmong}
 use Rattle.papers.specs.Program.{Program}

@@ -1,11 +1,11 @@
--- `literals::atom_of` meets its contract: the answer of `is_listed` picks the case, and a listed number halves to one of 16 bits.
+-- `conjugates::atom_of` meets its contract: the answer of `is_listed` picks the case, and a listed number halves to one of 16 bits.
 -- Assumes nothing.
 use borrow.Author.Needs.{needs}
 use borrow.Author.Tests.{ltb-true}
 use mathlib.Core.Path.{sym, _∙_}
 use native.Mathlib.Omega.{arith}
-use Rattle.literals.proofs.atom_of.Statement.{statement}
-use Rattle.literals.proofs.atom_of.Tie as tie
+use Rattle.conjugates.proofs.atom_of.Statement.{statement}
+use Rattle.conjugates.proofs.atom_of.Tie as tie
 
 is-listed-requires : tie.Need-is-listed-requires
 is-listed-requires c κs = search needs

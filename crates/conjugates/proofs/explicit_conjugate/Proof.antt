@@ -1,8 +1,8 @@
--- `literals::explicit_conjugate` meets its contract: the answer of `is_listed` picks the case.
+-- `conjugates::explicit_conjugate` meets its contract: the answer of `is_listed` picks the case.
 -- Assumes nothing.
 use borrow.Author.Needs.{needs}
-use Rattle.literals.proofs.explicit_conjugate.Statement.{statement}
-use Rattle.literals.proofs.explicit_conjugate.Tie as tie
+use Rattle.conjugates.proofs.explicit_conjugate.Statement.{statement}
+use Rattle.conjugates.proofs.explicit_conjugate.Tie as tie
 
 is-listed-requires : tie.Need-is-listed-requires
 is-listed-requires c κs = search needs

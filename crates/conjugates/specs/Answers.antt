@@ -1,13 +1,13 @@
 -- The answers that falsum, and every number past it, has none of: document 01's value for each case.
 use Prim.Native.Nat.{ℕ}
 use mathlib.Core.Bool.{cond}
 use Rattle.literals.specs.Numbering.{atomNumber, explicitConjugate, literal, defaultNegation, listed}
-use Rattle.literals.specs.declared.AtomOf.{AtomOf}
-use Rattle.literals.specs.declared.AtomOf.the-variants as atom
-use Rattle.literals.specs.declared.Conjugate.{Conjugate}
-use Rattle.literals.specs.declared.Conjugate.the-variants as conjugate
-use Rattle.literals.specs.declared.LiteralOf.{LiteralOf}
-use Rattle.literals.specs.declared.LiteralOf.the-variants as literal-of
+use Rattle.conjugates.specs.declared.AtomOf.{AtomOf}
+use Rattle.conjugates.specs.declared.AtomOf.the-variants as atom
+use Rattle.conjugates.specs.declared.Conjugate.{Conjugate}
+use Rattle.conjugates.specs.declared.Conjugate.the-variants as conjugate
+use Rattle.conjugates.specs.declared.LiteralOf.{LiteralOf}
+use Rattle.conjugates.specs.declared.LiteralOf.the-variants as literal-of
 
 -- objective literals 2a and 2a+1 are of atom a; falsum is of none
 abbrev pub atomOf : ℕ → ℕ → AtomOf

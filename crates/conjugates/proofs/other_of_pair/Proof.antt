@@ -1,10 +1,10 @@
--- `literals::other_of_pair` meets its contract: the test on the code's branch is the definition's.
+-- `conjugates::other_of_pair` meets its contract: the test on the code's branch is the definition's.
 -- Assumes nothing.
 use borrow.Author.Needs.{needs}
 use borrow.Author.Tests.{eq-eqb, ne-eqb}
 use Rattle.literals.specs.Numbering.{otherOfPair}
-use Rattle.literals.proofs.other_of_pair.Statement.{statement}
-use Rattle.literals.proofs.other_of_pair.Tie as tie
+use Rattle.conjugates.proofs.other_of_pair.Statement.{statement}
+use Rattle.conjugates.proofs.other_of_pair.Tie as tie
 
 add-result : tie.Need-add-result
 add-result c = search needs

@@ -1,0 +1,31 @@
+// The numbers of a row, decoded once a call, and those that are read as one of document 01's numberings.
+ghost use mathlib.Core.Path.{_≡_};
+ghost use Prim.Native.Nat.{_<_};
+ghost use lib.ListN.{length, getD};
+use arrays::wide;
+use literals::Literal;
+use literals::Objective;
+
+// The number at a place of a row.
+pub fn number_in(row: &[u16], place: usize) -> usize
+    requires { ⌜ place < length (now row) ⌝ }
+    ensures { λ r. ⌜ (r ≡ getD (now (row .entry)) place 0) × (r < 65536) ⌝ }
+{
+    wide(row[place])
+}
+
+// An objective literal: a rule's head, or what an entry is of.
+pub fn objective_in(row: &[u16], place: usize) -> Objective
+    requires { ⌜ place < length (now row) ⌝ }
+    ensures { λ r. ⌜ r .0 ≡ getD (now (row .entry)) place 0 ⌝ }
+{
+    Objective(number_in(row, place))
+}
+
+// A literal, of a body, a clause or a query.
+pub fn literal_in(row: &[u16], place: usize) -> Literal
+    requires { ⌜ place < length (now row) ⌝ }
+    ensures { λ r. ⌜ r .0 ≡ getD (now (row .entry)) place 0 ⌝ }
+{
+    Literal(number_in(row, place))
+}
