@@ -1,5 +1,5 @@
 -- Arrays that are written from their start on, and visits in an order that was tested. Assumes nothing.
-use mathlib.Core.Path.{_≡_, refl, sym, ap, _∙_}
+use mathlib.Core.Path.{_≡_, sym, ap, _∙_}
 use mathlib.Core.List.{List}
 use Prim.Native.Nat.{ℕ, _+_, _<_}
 use native.Mathlib.Omega.{arith}
@@ -9,15 +9,6 @@ use Rattle.papers.proofs.Lists.{set-more}
 use Rattle.ordering.specs.Orders.{Visits, Placed, Ordered, StaysFrom, Written, own, startAt}
 
 -- ---- writing
-
-pub stays : (count : ℕ) (l : List ℕ) → StaysFrom count l l
-stays count l = record { sized = refl; beyond = λ k h. refl }
-
-pub stays-then : {count : ℕ} {first second third : List ℕ} → StaysFrom count first second → StaysFrom count second third → StaysFrom count first third
-stays-then s t = record { sized = t .sized ∙ s .sized; beyond = λ k h. t .beyond k h ∙ s .beyond k h }
-
-pub stays-set : (count : ℕ) (l : List ℕ) (at v : ℕ) → at < count → StaysFrom count l (set l at v)
-stays-set count l at v h = record { sized = length-set l at v; beyond = λ k b. getD-set-other l at k v 0 (λ e. omega arith) }
 
 -- One number more.
 pub written-more : {number : ℕ → ℕ} {i : ℕ} {before after : List ℕ} (v : ℕ) → i < length after → v ≡ number i → Written number i before after

@@ -1,15 +1,14 @@
--- `ordering::invert` meets its contract. The loop's invariant: from `count` on the ranks stay.
+-- `ordering::invert` meets its contract.
 -- Assumes nothing.
-use Prim.Native.Nat.{_-_, _≤_}
-use native.Mathlib.Omega.{arith}
-use Rattle.ordering.specs.Orders.{StaysFrom}
-use Rattle.ordering.proofs.OrderLaws.{stays-then}
+use mathlib.Core.Path.{_≡_}
+use Prim.Native.Nat.{_-_}
+use lib.ListN.{length}
 use borrow.Author.Needs.{needs}
 use Rattle.ordering.proofs.invert.Statement.{statement}
 use Rattle.ordering.proofs.invert.Tie as tie
 
 abbrev Inv-loop : tie.InvT-loop
-Inv-loop order ranks₀ count i₀ ranks i = StaysFrom count ranks₀ ranks × (i ≤ count)
+Inv-loop order ranks₀ count i₀ ranks i = length ranks ≡ length ranks₀
 
 abbrev μ-loop : tie.MeasureT-loop
 μ-loop order ranks₀ count i₀ ranks i = count - i
@@ -17,20 +16,14 @@ abbrev μ-loop : tie.MeasureT-loop
 loop-holds : tie.Need-loop-holds Inv-loop μ-loop
 loop-holds c = search needs
 
-mul-wide : tie.Need-mul-wide Inv-loop μ-loop
-mul-wide c = search needs
+get-requires : tie.Need-get-requires Inv-loop μ-loop
+get-requires c κs = search needs
 
-shared-slice-read-wide : tie.Need-shared-slice-read-wide Inv-loop μ-loop
-shared-slice-read-wide c = search needs
+short-requires : tie.Need-short-requires Inv-loop μ-loop
+short-requires c κs = search needs
 
-wide-requires : tie.Need-wide-requires Inv-loop μ-loop
-wide-requires c κs = search needs
-
-cast-store : tie.Need-cast-store Inv-loop μ-loop
-cast-store c = search needs
-
-store-requires : tie.Need-store-requires Inv-loop μ-loop
-store-requires c κs = search needs
+put-requires : tie.Need-put-requires Inv-loop μ-loop
+put-requires c κs = search needs
 
 add-i : tie.Need-add-i Inv-loop μ-loop
 add-i c = search needs
@@ -39,8 +32,7 @@ loop-less : tie.Need-loop-less Inv-loop μ-loop
 loop-less c = search needs
 
 loop-again : tie.Need-loop-again Inv-loop μ-loop
-loop-again c =
-    (stays-then (c .before .before .before .before .before .before .before .loop .inv .0) (c .before .before .store .ensures), omega arith)
+loop-again c = search needs
 
 same-length : tie.Need-same-length Inv-loop μ-loop
 same-length c = search needs
@@ -55,11 +47,9 @@ invert-spec =
     Inv-loop
     μ-loop
     loop-holds
-    mul-wide
-    shared-slice-read-wide
-    wide-requires
-    cast-store
-    store-requires
+    get-requires
+    short-requires
+    put-requires
     add-i
     loop-less
     loop-again

@@ -1,7 +1,6 @@
 -- `ordering::settle` meets its contract.
 -- Assumes nothing.
-use denote.Ref.{now}
-use Rattle.ordering.proofs.OrderLaws.{stays, own-ordered}
+use Rattle.ordering.proofs.OrderLaws.{own-ordered}
 use borrow.Author.Needs.{needs}
 use Rattle.ordering.proofs.settle.Statement.{statement}
 use Rattle.ordering.proofs.settle.Tie as tie
@@ -16,9 +15,7 @@ same-length-2 : tie.Need-same-length-2
 same-length-2 c = search needs
 
 returns : tie.Need-returns
-returns c =
-    let a = c .before .before .before .before .before .before .args in
-    (c .before .is-order .ensures (c .if1 .taken), stays (a .count) (now (a .ranks)))
+returns c = c .before .is-order .ensures (c .if1 .taken)
 
 count-up-requires : tie.Need-count-up-requires
 count-up-requires c κs = search needs
@@ -35,8 +32,7 @@ same-length-4 c = search needs
 returns-2 : tie.Need-returns-2
 returns-2 c =
     let first = c .before .before .before .before .before .before .count-up in
-    let second = c .before .before .count-up2 in
-    (own-ordered (first .ensures) (second .ensures), second .ensures .stays)
+    own-ordered (first .ensures) (c .before .before .count-up2 .ensures)
 
 pub settle-spec : {M : Type 1} → statement M
 settle-spec =

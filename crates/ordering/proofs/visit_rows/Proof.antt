@@ -1,6 +1,6 @@
 -- `ordering::visit_rows` meets its contract.
 -- Assumes nothing.
-use Rattle.ordering.proofs.OrderLaws.{stays-then, visits-all}
+use Rattle.ordering.proofs.OrderLaws.{visits-all}
 use borrow.Author.Needs.{needs}
 use Rattle.ordering.proofs.visit_rows.Statement.{statement}
 use Rattle.ordering.proofs.visit_rows.Tie as tie
@@ -14,7 +14,7 @@ settle-requires c κs = search needs
 visit-requires : tie.Need-visit-requires
 visit-requires c κs =
     let settled = c .before .before .before .before .before .before .settle in
-    (search needs, (search needs, (search needs, λ k h. settled .ensures .0 .placed k h .row-below)))
+    (search needs, (search needs, (search needs, λ k h. settled .ensures .placed k h .row-below)))
 
 same-length : tie.Need-same-length
 same-length c = search needs
@@ -29,8 +29,7 @@ returns : tie.Need-returns
 returns c =
     let visited = c .before .before .visit in
     let settled = c .before .before .before .before .before .before .before .before .before .settle in
-    let inverted = c .before .before .before .before .before .before .before .before .before .before .before .before .before .before .invert in
-    (visits-all (settled .ensures .0) (visited .ensures), (stays-then (inverted .ensures) (settled .ensures .1), visited .ensures .stays))
+    (visits-all (settled .ensures) (visited .ensures), visited .ensures .stays)
 
 pub visit-rows-spec : {M : Type 1} → statement M
 visit-rows-spec =
