@@ -10,17 +10,16 @@ ghost use Prim.Native.Nat.{ℕ, _≤_, _<_};
 ghost use lib.ListN.{length, getD};
 ghost use Rattle.ordering.specs.Orders.{Visits, Ordered, StaysFrom, Written, own, startAt};
 use arrays::get;
-use arrays::put;
 use arrays::wide;
 use counting::sort_by_rank;
 use depth::finishing_order;
-use numbers::short;
+use numbers::lay;
 
 // The place of each row in an order.
 fn invert(order: &[u16], ranks: &mut [u16], count: usize) {
     let mut i: usize = 0;
     while i < count {
-        put(ranks, get(order, i, 0), short(i));
+        lay(ranks, get(order, i, 0), i);
         i += 1;
     }
 }

@@ -1,15 +1,15 @@
 -- `ordering::depth::finishing_order` meets its contract.
 -- Assumes nothing.
 use mathlib.Core.Path.{_≡_}
-use Prim.Native.Nat.{_-_}
+use Prim.Native.Nat.{_-_, _*_, _≤_}
 use lib.ListN.{length}
 use borrow.Author.Needs.{needs}
 use Rattle.ordering.proofs.depth.finishing_order.Statement.{statement}
 use Rattle.ordering.proofs.depth.finishing_order.Tie as tie
 
 abbrev Inv-loop : tie.InvT-loop
-Inv-loop entries starts order₀ count places₀ path₀ closed₀ row₀ order places path closed row =
-    (length order ≡ length order₀) × ((length places ≡ 513) × (length path ≡ 513))
+Inv-loop entries starts order₀ count places₀ path₀ closed₀ row₀ order places path closed row = 
+    (closed ≤ 1026 * row) × ((row ≤ count) × ((length order ≡ length order₀) × ((length places ≡ 513) × (length path ≡ 513))))
 
 abbrev μ-loop : tie.MeasureT-loop
 μ-loop entries starts order₀ count places₀ path₀ closed₀ row₀ order places path closed row = count - row

@@ -1,26 +1,18 @@
 -- `ordering::depth::search_from` meets its contract.
 -- Assumes nothing.
 use mathlib.Core.Path.{_≡_}
+use Prim.Native.Nat.{_+_, _≤_}
 use lib.ListN.{length}
 use borrow.Author.Needs.{needs}
 use Rattle.ordering.proofs.depth.search_from.Statement.{statement}
 use Rattle.ordering.proofs.depth.search_from.Tie as tie
 
 abbrev Inv-loop : tie.InvT-loop
-Inv-loop entries starts places₀ path₀ order₀ closed row depth standing₀ steps₀ places path order standing steps =
-    (length places ≡ length places₀) × ((length path ≡ length path₀) × (length order ≡ length order₀))
+Inv-loop entries starts places₀ path₀ order₀ closed row depth standing₀ steps₀ places path order standing steps = 
+    (standing .depth + steps ≤ 1027) × ((standing .closed + steps ≤ closed + 1026) × ((length places ≡ length places₀) × ((length path ≡ length path₀) × (length order ≡ length order₀))))
 
 abbrev μ-loop : tie.MeasureT-loop
 μ-loop entries starts places₀ path₀ order₀ closed row depth standing₀ steps₀ places path order standing steps = steps
-
-get-requires : tie.Need-get-requires Inv-loop μ-loop
-get-requires c κs = search needs
-
-same-length : tie.Need-same-length Inv-loop μ-loop
-same-length c = search needs
-
-returns : tie.Need-returns Inv-loop μ-loop
-returns c = search needs
 
 open-row-requires : tie.Need-open-row-requires Inv-loop μ-loop
 open-row-requires c κs = search needs
@@ -28,17 +20,17 @@ open-row-requires c κs = search needs
 loop-holds : tie.Need-loop-holds Inv-loop μ-loop
 loop-holds c = search needs
 
+same-length : tie.Need-same-length Inv-loop μ-loop
+same-length c = search needs
+
 same-length-2 : tie.Need-same-length-2 Inv-loop μ-loop
 same-length-2 c = search needs
 
 same-length-3 : tie.Need-same-length-3 Inv-loop μ-loop
 same-length-3 c = search needs
 
-same-length-4 : tie.Need-same-length-4 Inv-loop μ-loop
-same-length-4 c = search needs
-
-returns-2 : tie.Need-returns-2 Inv-loop μ-loop
-returns-2 c = search needs
+returns : tie.Need-returns Inv-loop μ-loop
+returns c = search needs
 
 step-requires : tie.Need-step-requires Inv-loop μ-loop
 step-requires c κs = search needs
@@ -52,17 +44,17 @@ loop-less c = search needs
 loop-again : tie.Need-loop-again Inv-loop μ-loop
 loop-again c = search needs
 
+same-length-4 : tie.Need-same-length-4 Inv-loop μ-loop
+same-length-4 c = search needs
+
 same-length-5 : tie.Need-same-length-5 Inv-loop μ-loop
 same-length-5 c = search needs
 
 same-length-6 : tie.Need-same-length-6 Inv-loop μ-loop
 same-length-6 c = search needs
 
-same-length-7 : tie.Need-same-length-7 Inv-loop μ-loop
-same-length-7 c = search needs
-
-returns-3 : tie.Need-returns-3 Inv-loop μ-loop
-returns-3 c = search needs
+returns-2 : tie.Need-returns-2 Inv-loop μ-loop
+returns-2 c = search needs
 
 pub search-from-spec : {M : Type 1} → statement M
 search-from-spec =
@@ -70,20 +62,17 @@ search-from-spec =
     (tie.spec
     Inv-loop
     μ-loop
-    get-requires
-    same-length
-    returns
     open-row-requires
     loop-holds
+    same-length
     same-length-2
     same-length-3
-    same-length-4
-    returns-2
+    returns
     step-requires
     sub-steps
     loop-less
     loop-again
+    same-length-4
     same-length-5
     same-length-6
-    same-length-7
-    returns-3)
+    returns-2)
