@@ -7,8 +7,8 @@ use native.Mathlib.Omega.{arith}
 use native.Mathlib.Nat.{zero-add}
 use lib.ListN.{length, take, drop}
 use lib.Seq.{take-append-seam}
-use Rattle.report.specs.Text.{Put}
-use Rattle.report.proofs.Putting.{written-fits}
+use Rattle.decimals.specs.Text.{Put}
+use Rattle.decimals.proofs.Putting.{written-fits}
 
 -- Of a text put at a buffer's start that ends within it, the bytes before the end are the text: not one more, and not one less.
 pub handed-on : {text buffer : List ℕ} {end : ℕ} {after : List ℕ} → Put 0 text buffer end after → end ≤ length buffer → take end after ≡ text

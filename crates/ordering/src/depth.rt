@@ -20,13 +20,7 @@ fn leads_on(places: &[u16], number: usize) -> bool {
 }
 
 // Opens a row as the last, unless it was met: its literals stand from its third number on. Answers how many are open then.
-fn open_row(
-    starts: &[u16],
-    places: &mut [u16],
-    path: &mut [u16],
-    depth: usize,
-    row: usize,
-) -> usize
+fn open_row(starts: &[u16], places: &mut [u16], path: &mut [u16], depth: usize, row: usize) -> usize
     requires { ⌜ depth ≤ 1026 ⌝ }
     ensures { λ r. ⌜ r ≤ depth + 1 ⌝ }
 {

@@ -8,9 +8,10 @@ use Rattle.papers.specs.Outcome.{accepted}
 use Rattle.papers.specs.Reading.{readEdition, readAtoms, readAbducibles, readRun, readEnd, ruleOf, readRules, readFile, readSheet, Papers, readPapers}
 use Rattle.model.specs.Computing.{modelling}
 use Rattle.steps.specs.Computing.{computing}
-use Rattle.report.specs.Decimal.{digits, decimal}
-use Rattle.report.specs.Text.{spaced, line}
-use Rattle.report.specs.Lines.{stateWord, sign, assumption, assumptions, headingLine, foundLine, lastLine}
+use Rattle.decimals.specs.Decimal.{digits, decimal}
+use Rattle.decimals.specs.Text.{spaced, line}
+use Rattle.found_lines.specs.FoundLine.{sign, assumption, assumptions, foundLine}
+use Rattle.report.specs.Lines.{stateWord, headingLine, lastLine}
 use Rattle.printout.specs.Search.{lastState}
 use Rattle.printout.specs.Output.{foundLines, searchText, deskText}
 

@@ -16,10 +16,11 @@ use Rattle.trying.specs.Trying.{problemOf}
 use Rattle.steps.proofs.Tests.{left, right}
 use Rattle.steps.proofs.Stopping.{stop-le, stop-count}
 use Rattle.steps.proofs.Sound.{minimals-below}
-use Rattle.report.specs.Text.{Put}
-use Rattle.report.specs.Lines.{headingLine, foundLine, lastLine}
-use Rattle.report.proofs.Putting.{put-two}
-use Rattle.report.proofs.LineLengths.{found-length}
+use Rattle.decimals.specs.Text.{Put}
+use Rattle.found_lines.specs.FoundLine.{foundLine}
+use Rattle.report.specs.Lines.{headingLine, lastLine}
+use Rattle.decimals.proofs.Putting.{put-two}
+use Rattle.found_lines.proofs.LineLengths.{found-length}
 use Rattle.printout.specs.declared.searching.Progress.{Progress}
 use Rattle.printout.specs.Search.{problemFor, Stands, lastState, Finished}
 use Rattle.printout.specs.Output.{foundLines, searchText, deskText}

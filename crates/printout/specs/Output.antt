@@ -6,7 +6,8 @@ use Rattle.papers.specs.Outcome.{Outcome, accepted, refused}
 use Rattle.papers.specs.Reading.{Papers}
 use Rattle.steps.specs.Scenarios.{scenarios, minimals, stop, sumBelow}
 use Rattle.trying.specs.Trying.{problemOf}
-use Rattle.report.specs.Lines.{headingLine, foundLine, lastLine, refusedLine}
+use Rattle.found_lines.specs.FoundLine.{foundLine}
+use Rattle.report.specs.Lines.{headingLine, lastLine, refusedLine}
 use Rattle.printout.specs.Search.{lastState}
 
 -- "Each found entry, rising, has a line."

@@ -6,7 +6,7 @@ ghost use Prim.Native.Nat.{_≤_, _<_, _^_};
 ghost use lib.ListN.{length, take};
 ghost use Rattle.papers.specs.Field.{numbers};
 ghost use Rattle.papers.specs.Reading.{readPapers};
-ghost use Rattle.report.specs.Text.{Put};
+ghost use Rattle.decimals.specs.Text.{Put};
 ghost use Rattle.printout.specs.Search.{AcceptedAs};
 ghost use Rattle.printout.specs.Output.{foundLines, deskText};
 use model::scenario_count;
@@ -28,7 +28,7 @@ fn write_found_lines(
     let mut end = at;
     let mut i: usize = 0;
     while i < found {
-        end = report::write_found(out, end, list[i], abducibles);
+        end = found_lines::write_found(out, end, list[i], abducibles);
         i += 1;
     }
     end

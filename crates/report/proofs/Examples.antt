@@ -3,24 +3,14 @@ use mathlib.Core.Path.{_≡_, refl}
 use mathlib.Core.List.{[], _∷_}
 use Rattle.papers.specs.declared.Paper.the-variants.{Sheet}
 use Rattle.steps.specs.declared.State.the-variants.{Ended}
-use Rattle.report.specs.Decimal.{digits, decimal}
-use Rattle.report.specs.Text.{spaced, line}
-use Rattle.report.specs.Lines.{stateWord, paperWord, sign, assumption, assumptions, headingLine, foundLine, lastLine, refusedLine}
+use Rattle.decimals.specs.Decimal.{digits, decimal}
+use Rattle.decimals.specs.Text.{spaced, line}
+use Rattle.report.specs.Lines.{stateWord, paperWord, headingLine, lastLine, refusedLine}
 
 -- atoms 2 abducibles 1 scenarios 3
 pub heading : headingLine 2 1 3 ≡ 97 ∷ 116 ∷ 111 ∷ 109 ∷ 115 ∷ 32 ∷ 50 ∷ 32 ∷ 97 ∷ 98 ∷ 100 ∷ 117 ∷ 99 ∷ 105 ∷ 98 ∷ 108 ∷ 101 ∷ 115 ∷ 32 ∷ 49 ∷ 32 ∷ 115 ∷ 99 ∷ 101 ∷ 110 ∷ 97 ∷ 114 ∷ 105 ∷ 111 ∷ 115 ∷ 32 ∷ 51 ∷ 10 ∷ []
 unfolding headingLine line spaced decimal digits
 heading = refl
-
--- found 1 1+
-pub found : foundLine 1 (1 ∷ []) ≡ 102 ∷ 111 ∷ 117 ∷ 110 ∷ 100 ∷ 32 ∷ 49 ∷ 32 ∷ 49 ∷ 43 ∷ 10 ∷ []
-unfolding foundLine assumptions assumption sign line spaced decimal digits
-found = refl
-
--- found 25 0+ 7- 120-
-pub found-three : foundLine 25 (0 ∷ 7 ∷ 120 ∷ []) ≡ 102 ∷ 111 ∷ 117 ∷ 110 ∷ 100 ∷ 32 ∷ 50 ∷ 53 ∷ 32 ∷ 48 ∷ 43 ∷ 32 ∷ 55 ∷ 45 ∷ 32 ∷ 49 ∷ 50 ∷ 48 ∷ 45 ∷ 10 ∷ []
-unfolding foundLine assumptions assumption sign line spaced decimal digits
-found-three = refl
 
 -- ended tried 3 rounds 3
 pub ended : lastLine Ended 3 3 ≡ 101 ∷ 110 ∷ 100 ∷ 101 ∷ 100 ∷ 32 ∷ 116 ∷ 114 ∷ 105 ∷ 101 ∷ 100 ∷ 32 ∷ 51 ∷ 32 ∷ 114 ∷ 111 ∷ 117 ∷ 110 ∷ 100 ∷ 115 ∷ 32 ∷ 51 ∷ 10 ∷ []

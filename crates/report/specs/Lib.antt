@@ -1,4 +1,2 @@
--- Document 01, "The desk program": decimal numbers, lines, and a buffer with text in it.
-pub mod Decimal
-pub mod Text
+-- Document 01, "The desk program": its first and its last line, and that of a refusal.
 pub mod Lines

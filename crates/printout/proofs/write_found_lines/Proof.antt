@@ -6,8 +6,8 @@ use native.Mathlib.Omega.{arith}
 use denote.Ref.{now}
 use lib.ListN.{length, getD, take, drop}
 use Rattle.papers.specs.Field.{numbers}
-use Rattle.report.specs.Lines.{foundLine}
-use Rattle.report.proofs.Putting.{Left, left-all, left-after, left-none}
+use Rattle.found_lines.specs.FoundLine.{foundLine}
+use Rattle.decimals.proofs.Putting.{Left, left-all, left-after, left-none}
 use Rattle.printout.specs.Output.{foundLines}
 use Rattle.printout.proofs.TextLaws.{lines-none, lines-next}
 use Rattle.printout.proofs.write_found_lines.Statement.{statement}

@@ -4,9 +4,9 @@ use mathlib.Core.List.{[], _∷_, _++_, append-assoc}
 use native.Mathlib.Omega.{arith}
 use denote.Ref.{now}
 use borrow.Author.Needs.{needs}
-use Rattle.report.specs.Decimal.{decimal}
+use Rattle.decimals.specs.Decimal.{decimal}
 use Rattle.report.specs.Lines.{refusedLine, refusedWord, paperWord}
-use Rattle.report.proofs.Putting.{further, left-line, left-after, left-none}
+use Rattle.decimals.proofs.Putting.{further, left-line, left-after, left-none}
 use Rattle.report.proofs.write_refused.Statement.{statement}
 use Rattle.report.proofs.write_refused.Tie as tie
 

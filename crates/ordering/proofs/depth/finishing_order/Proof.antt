@@ -8,7 +8,7 @@ use Rattle.ordering.proofs.depth.finishing_order.Statement.{statement}
 use Rattle.ordering.proofs.depth.finishing_order.Tie as tie
 
 abbrev Inv-loop : tie.InvT-loop
-Inv-loop entries starts order₀ count places₀ path₀ closed₀ row₀ order places path closed row = 
+Inv-loop entries starts order₀ count places₀ path₀ closed₀ row₀ order places path closed row =
     (closed ≤ 1026 * row) × ((row ≤ count) × ((length order ≡ length order₀) × ((length places ≡ 513) × (length path ≡ 513))))
 
 abbrev μ-loop : tie.MeasureT-loop

@@ -8,7 +8,7 @@ use Rattle.ordering.proofs.depth.search_from.Statement.{statement}
 use Rattle.ordering.proofs.depth.search_from.Tie as tie
 
 abbrev Inv-loop : tie.InvT-loop
-Inv-loop entries starts places₀ path₀ order₀ closed row depth standing₀ steps₀ places path order standing steps = 
+Inv-loop entries starts places₀ path₀ order₀ closed row depth standing₀ steps₀ places path order standing steps =
     (standing .depth + steps ≤ 1027) × ((standing .closed + steps ≤ closed + 1026) × ((length places ≡ length places₀) × ((length path ≡ length path₀) × (length order ≡ length order₀))))
 
 abbrev μ-loop : tie.MeasureT-loop
