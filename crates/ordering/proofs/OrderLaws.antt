@@ -6,7 +6,8 @@ use native.Mathlib.Omega.{arith}
 use lib.ListN.{length, getD, set, length-set}
 use lib.Seq.{getD-set-other}
 use Rattle.papers.proofs.Lists.{set-more}
-use Rattle.ordering.specs.Orders.{Visits, Placed, Ordered, StaysFrom, Written, own, startAt}
+use Rattle.rows.specs.Visits.{Visits}
+use Rattle.ordering.specs.Orders.{Placed, Ordered, Written, own, startAt}
 
 -- ---- writing
 

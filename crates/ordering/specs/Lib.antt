@@ -1,2 +1,2 @@
--- Orders in which rows are visited.
+-- Orders that were tested.
 pub mod Orders

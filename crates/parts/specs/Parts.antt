@@ -5,7 +5,7 @@ use mathlib.Core.List.{List, map}
 use Prim.Native.Nat.{ℕ, _+_, _-_, _*_, _%_, _≤_, _<_}
 use lib.Dec.{leb}
 use lib.ListN.{length, getD}
-use Rattle.ordering.specs.Orders.{StaysFrom}
+use Rattle.arrays.specs.Staying.{StaysFrom}
 
 -- ---- marks
 

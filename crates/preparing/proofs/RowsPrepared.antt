@@ -8,7 +8,8 @@ use native.Mathlib.Omega.{arith}
 use lib.ListN.{length, getD, take}
 use lib.Seq.{length-take-le, getD-take}
 use Rattle.dual.specs.Bytes.{filled}
-use Rattle.ordering.specs.Orders.{Meets, Visits, StaysFrom}
+use Rattle.arrays.specs.Staying.{StaysFrom}
+use Rattle.rows.specs.Visits.{Meets, Visits}
 use Rattle.parts.specs.Parts.{placeOf, endsPart, placesOf, Unmarked, Marked, Asks, headAt, Parted}
 use Rattle.parts.proofs.PartLaws.{place-at}
 use Rattle.rows.specs.Rows.{joined, Starts, Prepared}

@@ -8,7 +8,8 @@ use Rattle.literals.specs.Numbering.{defaultConjugate, judged}
 use Rattle.papers.specs.Program.{Rule, Program, allRules, ruleAt}
 use Rattle.dual.specs.Table.{foldsOf, hasEntry}
 use Rattle.dual.specs.Bytes.{filled}
-use Rattle.ordering.specs.Orders.{Visits, StaysFrom}
+use Rattle.arrays.specs.Staying.{StaysFrom}
+use Rattle.rows.specs.Visits.{Visits}
 use Rattle.parts.specs.Parts.{placesOf, Parted}
 
 -- ---- rows

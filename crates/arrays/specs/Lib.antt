@@ -1,0 +1,2 @@
+-- What stays of an array.
+pub mod Staying
