@@ -1,4 +1,4 @@
--- `ordering::depth::finishing_order` meets its contract.
+-- `ordering::depth::finishing_order` meets its contract. The loop's invariant: a row's search closes at most 1,026.
 -- Assumes nothing.
 use mathlib.Core.Path.{_≡_}
 use Prim.Native.Nat.{_-_, _*_, _≤_}

@@ -1,4 +1,4 @@
--- `ordering::depth::search_from` meets its contract.
+-- `ordering::depth::search_from` meets its contract. The loop's invariant: a step opens or closes at most one row.
 -- Assumes nothing.
 use mathlib.Core.Path.{_≡_}
 use Prim.Native.Nat.{_+_, _≤_}
@@ -9,7 +9,9 @@ use Rattle.ordering.proofs.depth.search_from.Tie as tie
 
 abbrev Inv-loop : tie.InvT-loop
 Inv-loop entries starts places₀ path₀ order₀ closed row depth standing₀ steps₀ places path order standing steps =
-    (standing .depth + steps ≤ 1027) × ((standing .closed + steps ≤ closed + 1026) × ((length places ≡ length places₀) × ((length path ≡ length path₀) × (length order ≡ length order₀))))
+    (standing .depth + steps ≤ 1027)
+    × ((standing .closed + steps ≤ closed + 1026)
+    × ((length places ≡ length places₀) × ((length path ≡ length path₀) × (length order ≡ length order₀))))
 
 abbrev μ-loop : tie.MeasureT-loop
 μ-loop entries starts places₀ path₀ order₀ closed row depth standing₀ steps₀ places path order standing steps = steps
