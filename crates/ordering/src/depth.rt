@@ -1,6 +1,6 @@
 // A depth-first search over the entries of the dual. An entry is closed when all that it depends on was met, so that the entries
 // in the order in which they are closed come after those they depend on, wherever there is no cycle.
-ghost use Prim.Native.Nat.{_+_, _≤_, _<_};
+ghost use Prim.Native.Nat.{_+_, _*_, _≤_, _<_};
 use crate::numbers::lay;
 use arrays::get;
 
@@ -60,7 +60,7 @@ fn step(
     order: &mut [u16],
     standing: Standing,
 ) -> Standing
-    requires { ⌜ (0 < standing .depth) × ((standing .depth ≤ 1026) × (standing .closed ≤ 526338)) ⌝ }
+    requires { ⌜ (0 < standing .depth) × ((standing .depth ≤ 1026) × (standing .closed ≤ 1026 * 513)) ⌝ }
     ensures { λ r. ⌜ (r .depth ≤ standing .depth + 1) × (r .closed ≤ standing .closed + 1) ⌝ }
 {
     let depth = standing.depth;
@@ -83,7 +83,7 @@ fn step(
 }
 
 // Closes a row and all that it leads to; answers how many are closed then. Each of at most 513 rows is opened once and closed
-// once, so that 1,026 steps are enough.
+// once, so that 1,026 steps are enough. That no row is closed twice is nowhere said, so the bound grows by as many for each search.
 fn search_from(
     entries: &[u16],
     starts: &[u16],
@@ -93,7 +93,7 @@ fn search_from(
     closed: usize,
     row: usize,
 ) -> usize
-    requires { ⌜ closed ≤ 525312 ⌝ }
+    requires { ⌜ closed ≤ 1026 * 512 ⌝ }
     ensures { λ r. ⌜ r ≤ closed + 1026 ⌝ }
 {
     let depth = open_row(starts, places, path, 0, row);

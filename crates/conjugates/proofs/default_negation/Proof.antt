@@ -1,4 +1,4 @@
--- `conjugates::default_negation` meets its contract: the answer of `is_listed` picks the case, and a listed number doubles within 32 bits.
+-- `conjugates::default_negation` meets its contract: the answer of `is_listed` picks the case, and a listed number doubles within a word.
 -- Assumes nothing.
 use borrow.Author.Needs.{needs}
 use borrow.Author.Tests.{ltb-true}
