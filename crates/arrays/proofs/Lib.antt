@@ -1,2 +1,2 @@
--- Laws of arrays.
+-- What is read past the end of an array.
 mod ArrayLaws

@@ -1,2 +1,2 @@
--- What stays of an array.
+-- What stays of an array whose first numbers may change.
 pub mod Staying

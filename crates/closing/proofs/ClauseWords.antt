@@ -8,12 +8,12 @@ use native.Mathlib.Numerals.{add-one}
 use lib.ListN.{length, getD, drop, drop-of-length-le}
 use lib.Seq.{drop-cons}
 use lib.Bits.{bitOr}
-use Rattle.model.specs.Tests.{_or_}
+use Rattle.papers.specs.Tests.{_or_}
 use Rattle.model.specs.Falsity.{someHolds}
 use Rattle.lanes.specs.Lanes.{inLane, lane}
 use Rattle.lanes.specs.Words.{wordOf, Below, Literals}
 use Rattle.closing.specs.FalseWords.{SomeWord}
-use Rattle.model.proofs.TestLaws.{or-false, false-or, or-assoc}
+use Rattle.papers.proofs.TestLaws.{or-false, false-or, or-assoc}
 use Rattle.lanes.proofs.LaneLaws.{lane-or, lane-none}
 use Rattle.lanes.proofs.WordLaws.{word-holds, literals-first, literals-more}
 

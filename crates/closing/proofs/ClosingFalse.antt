@@ -10,7 +10,7 @@ use Rattle.literals.specs.Numbering.{judged}
 use Rattle.papers.specs.Program.{Program}
 use Rattle.dual.specs.Table.{dual}
 use Rattle.parts.specs.Parts.{headAt}
-use Rattle.model.specs.Tests.{_or_}
+use Rattle.papers.specs.Tests.{_or_}
 use Rattle.model.specs.Sets.{Set, has}
 use Rattle.model.specs.Scenarios.{falseAbducible}
 use Rattle.model.specs.Model.{conjugateIn}
@@ -19,7 +19,7 @@ use Rattle.lanes.specs.Lanes.{inLane, lane, Written}
 use Rattle.closing.specs.FalseWords.{EntriesStand, GreatestGiven, FalseWords, PartDropped}
 use Rattle.closing.proofs.EntriesVisited.{visits-judged, objective-every}
 use Rattle.lanes.specs.Words.{sameWord}
-use Rattle.model.proofs.TestLaws.{or-assoc}
+use Rattle.papers.proofs.TestLaws.{or-assoc}
 use Rattle.model.proofs.SetLaws.{has-within}
 use Rattle.model.proofs.FalsityLaws.{greatest-only}
 use Rattle.lanes.proofs.LaneLaws.{lane-full, sized as lane-sized, has-lane}

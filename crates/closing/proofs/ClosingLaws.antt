@@ -1,7 +1,7 @@
 -- Closing sets of 64 lanes under the rules: what a rule and a pass keep, why passes end, and that they end at the least set of each lane.
 -- Assumes nothing.
 use mathlib.Core.Path.{_≡_, refl, sym, ap, subst, _∙_}
-use mathlib.Core.Bool.{Bool, true, false, not, cond}
+use mathlib.Core.Bool.{Bool, true, false, not, cond, true≢false}
 use mathlib.Core.List.{List, [], _∷_}
 use mathlib.Core.Logic.{⊎-elim}
 use Prim.Native.Nat.{ℕ, suc, _+_, _-_, _*_, _≤_, _<_}
@@ -15,13 +15,13 @@ use lib.Seq.{getD-set-same, getD-set-other, set-getD}
 use Rattle.papers.specs.Program.{Rule, noRule}
 use Rattle.papers.proofs.Lists.{getD-map-lt}
 use Rattle.parts.specs.Parts.{placeOf}
-use Rattle.model.specs.Tests.{_and_, _or_}
+use Rattle.papers.specs.Tests.{_and_, _or_}
 use Rattle.model.specs.Sets.{Set, has, full}
 use Rattle.model.specs.LeastSet.{bodyHolds, supported, Reduct, least}
 use Rattle.lanes.specs.Lanes.{inLane, lane}
 use Rattle.lanes.specs.Words.{Literals, total, Laned}
 use Rattle.closing.specs.Closing.{ruleIn, visitedRule, rulesIn, RulesStand, Judged, Raised, Passed, begun, then, ClosedTrue}
-use Rattle.model.proofs.TestLaws.{both, left, right, either, either-left, either-right, true-and, false-and, true-or, false-or, or-false}
+use Rattle.papers.proofs.TestLaws.{both, left, right, either, either-left, either-right, true-and, false-and, true-or, false-or, or-false}
 use Rattle.model.proofs.SetLaws.{Sub, has-within, full-in, sub-refl}
 use Rattle.model.proofs.LeastLaws.{body-mono, least-closed, least-is}
 use Rattle.model.proofs.Support.{supported-tells, supported-is}
@@ -70,7 +70,7 @@ or-ge : (a b : ℕ) → a ≤ bitOr a b
 or-ge a b = omega (arith, or-add-and a b, and-le-r a b)
 
 no-flag : {A : Type 0} → true ≡ false → A
-no-flag e = absurd (let z : _≡_ {A = ℕ} 0 1 = cc in omega arith)
+no-flag e = absurd (true≢false cc)
 
 or-first : (a b : Bool) → (a or b) ≡ false → a ≡ false
 unfolding _or_

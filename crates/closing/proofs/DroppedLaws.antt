@@ -15,7 +15,7 @@ use Rattle.literals.specs.Numbering.{explicitlyNegated, judged}
 use Rattle.papers.specs.Program.{Program}
 use Rattle.papers.specs.Valid.{Valid}
 use Rattle.dual.specs.Table.{Field, dual}
-use Rattle.model.specs.Tests.{_and_, _or_}
+use Rattle.papers.specs.Tests.{_and_, _or_}
 use Rattle.model.specs.Sets.{Set, has}
 use Rattle.model.specs.Scenarios.{digitOf, falseAbducible}
 use Rattle.model.specs.Model.{conjugateIn}
@@ -23,7 +23,7 @@ use Rattle.model.specs.Falsity.{entryHolds, backed}
 use Rattle.lanes.specs.Lanes.{inLane, lane}
 use Rattle.closing.specs.FalseWords.{GivenBacked, Dropped, Narrowed, BackedTo, DroppedTo, PartDropped}
 use Rattle.lanes.specs.Words.{total}
-use Rattle.model.proofs.TestLaws.{both, left, right, or-mono, is-true, false-or, false-and}
+use Rattle.papers.proofs.TestLaws.{both, left, right, or-mono, is-true, false-or, false-and}
 use Rattle.model.proofs.SetLaws.{Sub, has-within, set-ext}
 use Rattle.model.proofs.FalsityLaws.{backed-more}
 use Rattle.lanes.proofs.LaneLaws.{lane-and, lane-or, sized as lane-sized, has-lane, total-set}

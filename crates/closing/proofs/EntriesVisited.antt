@@ -8,7 +8,7 @@ use lib.ListN.{length, getD, take, drop}
 use Rattle.literals.specs.Numbering.{judged}
 use Rattle.papers.specs.Program.{Program}
 use Rattle.parts.specs.Parts.{placeOf, headAt, Parted}
-use Rattle.parts.proofs.PartLaws.{place-at, part-count, part-visit}
+use Rattle.parts.proofs.MarkedParts.{place-at, part-count, part-visit}
 use Rattle.rows.specs.Rows.{entryRow, StandsAt}
 use Rattle.rows.proofs.RowLaws.{entry-rows-count, entry-row-at}
 use Rattle.rows.proofs.StandLaws.{stands-first}

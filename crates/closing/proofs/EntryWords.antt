@@ -8,7 +8,7 @@ use native.Mathlib.Omega.{arith}
 use lib.Bits.{bitAnd}
 use lib.ListN.{length, getD, take, drop, length-append}
 use Rattle.literals.specs.Numbering.{defaultConjugate, judged}
-use Rattle.literals.proofs.Laws.{default-same-objective}
+use Rattle.literals.proofs.NumberingLaws.{default-same-objective}
 use Rattle.papers.specs.Program.{Program, allRules}
 use Rattle.papers.specs.Valid.{Valid, All, none, each}
 use Rattle.papers.proofs.Lists.{all-map, first-of}
@@ -17,10 +17,10 @@ use Rattle.dual.specs.Table.{foldsOf, hasEntry, dual}
 use Rattle.dual.proofs.Folds.{FoldIn, folds-of-tell}
 use Rattle.rows.specs.Rows.{clausesRow, clauseOf, clausesOf, entryRow, StandsAt}
 use Rattle.rows.proofs.StandLaws.{stands-first, stands-after, stands-front, stands-rest, stands-part}
-use Rattle.model.specs.Tests.{_and_}
+use Rattle.papers.specs.Tests.{_and_}
 use Rattle.model.specs.Sets.{Set}
 use Rattle.model.specs.Falsity.{someHolds, foldsHold, entryHolds}
-use Rattle.model.proofs.TestLaws.{true-and, and-true, false-and, and-assoc}
+use Rattle.papers.proofs.TestLaws.{true-and, and-true, false-and, and-assoc}
 use Rattle.model.proofs.Fields.{entry-dual, listed-dual}
 use Rattle.lanes.specs.Lanes.{inLane, lane}
 use Rattle.lanes.specs.Words.{Below, Literals}

@@ -14,14 +14,14 @@ use Rattle.literals.specs.Numbering.{objectiveNumber, defaultNegated, judged}
 use Rattle.papers.specs.Program.{Program}
 use Rattle.dual.specs.Table.{dual}
 use Rattle.parts.specs.Parts.{placeOf, Asks, headAt, PartEnd, Apart}
-use Rattle.parts.proofs.PartLaws.{part-count, part-head}
+use Rattle.parts.proofs.MarkedParts.{part-count, part-head}
 use Rattle.rows.specs.Rows.{clausesRow, clausesOf, entryRow}
 use Rattle.rows.proofs.StandLaws.{stands-first, stands-after}
-use Rattle.model.specs.Tests.{_or_}
+use Rattle.papers.specs.Tests.{_or_}
 use Rattle.model.specs.Sets.{Set, has}
 use Rattle.model.specs.LeastSet.{literalHolds}
 use Rattle.model.specs.Falsity.{someHolds, entryHolds}
-use Rattle.model.proofs.TestLaws.{is-false}
+use Rattle.papers.proofs.TestLaws.{is-false}
 use Rattle.model.proofs.SetLaws.{has-within}
 use Rattle.lanes.specs.Lanes.{inLane, lane}
 use Rattle.lanes.proofs.LaneLaws.{sized as lane-sized, has-lane}

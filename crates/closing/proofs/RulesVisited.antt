@@ -13,11 +13,11 @@ use Rattle.papers.specs.Valid.{Valid}
 use Rattle.papers.proofs.Lists.{all-each}
 use Rattle.papers.proofs.RuleLaws.{rule-fitting, head-within}
 use Rattle.parts.specs.Parts.{placeOf, Parted}
-use Rattle.parts.proofs.PartLaws.{place-at}
+use Rattle.parts.proofs.MarkedParts.{place-at}
 use Rattle.rows.specs.Rows.{ruleRow, ruleRows, StandsAt, Stand}
 use Rattle.rows.proofs.RowLaws.{rule-rows-count, rule-row-at}
 use Rattle.rows.proofs.StandLaws.{stands-first, stands-after, stands-part}
-use Rattle.model.specs.Tests.{_and_, _or_}
+use Rattle.papers.specs.Tests.{_and_, _or_}
 use Rattle.model.specs.Sets.{Set, has, setOf, empty}
 use Rattle.model.specs.Iteration.{iterate}
 use Rattle.model.specs.LeastSet.{supported, Reduct, step, least}

@@ -11,14 +11,14 @@ use lib.ListN.{length, getD, take, drop, length-append, length-take, List·getD-
 use lib.Seq.{length-take-le, getD-take, getD-drop, getD-append-add, take-add}
 use Rattle.papers.specs.Program.{Rule, noRule}
 use Rattle.parts.specs.Parts.{placeOf, headAt, PartEnd, Apart}
-use Rattle.parts.proofs.PartLaws.{part-count, part-visit}
-use Rattle.model.specs.Tests.{_and_, _or_}
+use Rattle.parts.proofs.MarkedParts.{part-count, part-visit}
+use Rattle.papers.specs.Tests.{_and_, _or_}
 use Rattle.model.specs.Sets.{Set, full}
 use Rattle.model.specs.LeastSet.{bodyHolds, least}
 use Rattle.lanes.specs.Lanes.{inLane, lane}
 use Rattle.lanes.specs.Words.{Laned}
 use Rattle.closing.specs.Closing.{ruleIn, visitedRule, rulesIn, RulesStand, Judged, Raised, begun, then, ClosedTrue}
-use Rattle.model.proofs.TestLaws.{both, right, either, either-right}
+use Rattle.papers.proofs.TestLaws.{both, right, either, either-right}
 use Rattle.model.proofs.SetLaws.{Sub, sub-refl}
 use Rattle.model.proofs.LeastLaws.{body-mono}
 use Rattle.model.proofs.LeastParts.{ApartRules, least-parts}

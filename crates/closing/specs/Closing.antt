@@ -9,7 +9,7 @@ use lib.Dec.{eqb}
 use lib.ListN.{length, getD, take, drop, set}
 use Rattle.papers.specs.Program.{Rule, noRule}
 use Rattle.parts.specs.Parts.{placeOf}
-use Rattle.model.specs.Tests.{_or_}
+use Rattle.papers.specs.Tests.{_or_}
 use Rattle.model.specs.Sets.{full}
 use Rattle.model.specs.LeastSet.{least}
 use Rattle.lanes.specs.Lanes.{lane, KeptFrom}

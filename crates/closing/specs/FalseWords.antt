@@ -12,7 +12,7 @@ use Rattle.papers.specs.Valid.{Valid}
 use Rattle.dual.specs.Table.{dual}
 use Rattle.parts.specs.Parts.{placeOf}
 use Rattle.rows.specs.Rows.{entryRow, entryRows, StandsAt, Stand}
-use Rattle.model.specs.Tests.{_and_, _or_}
+use Rattle.papers.specs.Tests.{_and_, _or_}
 use Rattle.model.specs.Sets.{Set, has}
 use Rattle.model.specs.Falsity.{someHolds, entryHolds}
 use Rattle.lanes.specs.Lanes.{inLane, lane, KeptFrom}

@@ -1,3 +1,6 @@
--- Sets of 64 lanes closed: T under the rules of a file, F by the entries of a dual.
+-- Sets of 64 lanes closed.
+
+-- T under the rules of a file.
 pub mod Closing
+-- F by the entries of a dual.
 pub mod FalseWords

@@ -1,1 +1,2 @@
-pub mod AnswerLaws
+-- What each answer says of the number asked about.
+pub mod ConjugateLaws

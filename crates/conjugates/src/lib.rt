@@ -1,7 +1,7 @@
 // Document 01, Numberings: the two conjugates, and what else an objective literal has unless it is falsum. No function has a `requires`.
 ghost use mathlib.Core.Path.{_≡_};
 ghost use Rattle.literals.specs.Numbering.{otherOfPair, defaultConjugate};
-ghost use Rattle.conjugates.specs.Answers.{atomOf, conjugateOf, defaultNegationOf, literalOf};
+ghost use Rattle.conjugates.specs.Conjugates.{atomOf, conjugateOf, defaultNegationOf, literalOf};
 use literals::Atom;
 use literals::Literal;
 use literals::Objective;

@@ -6,7 +6,7 @@ use Prim.Native.Nat.{ℕ, _+_, _*_, _/_, _≤_, _<_}
 use native.Mathlib.Omega.{arith}
 use lib.ListN.{length, drop, set, length-append, length-set}
 use Rattle.papers.specs.Field.{numberIn, numbers}
-use Rattle.papers.proofs.Walking.{read-number, no-number}
+use Rattle.papers.proofs.NumbersWalked.{read-number, no-number}
 use Rattle.copying.specs.Laid.{laid}
 use Rattle.copying.proofs.LaidLaws.{laid-none, laid-one}
 

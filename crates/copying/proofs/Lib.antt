@@ -1,3 +1,6 @@
--- Numbers laid in an array, and copied into it from bytes.
+-- Laws of numbers laid in an array.
+
+-- None, one more, and one part more.
 pub mod LaidLaws
+-- Copied from bytes, one by one.
 mod CopyLaws

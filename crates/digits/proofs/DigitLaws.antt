@@ -11,7 +11,7 @@ use lib.Arith.{digits-div}
 use lib.Bits.{bitAnd, bitOr}
 use lib.Dec.{eqb}
 use lib.Pow.{pow-lt, pow-pos}
-use Rattle.model.specs.Tests.{_and_, _or_}
+use Rattle.papers.specs.Tests.{_and_, _or_}
 use Rattle.lanes.specs.Lanes.{inLane}
 use Rattle.digits.specs.Digits.{LanesBelow, RunLanes, DigitLanes}
 use Rattle.lanes.proofs.LaneLaws.{lane-and, lane-or, lane-not, lane-none, lane-full, lane-ones, lane-past}

@@ -1,4 +1,8 @@
--- The lanes of a digit, rows of words, and the words of the abducible literals.
+-- The digits of 64 scenarios.
+
+-- The lanes of a digit, run by run.
 mod DigitLaws
-mod RowLaws
+-- The first words of a row cleared.
+mod ClearedWords
+-- The words of the abducible literals.
 mod SeedLaws

@@ -16,12 +16,12 @@ use Rattle.papers.specs.Program.{Program}
 use Rattle.papers.specs.Field.{numberIn, numbers}
 use Rattle.papers.specs.Content.{isAmong}
 use Rattle.papers.specs.Valid.{All, each, Rising, Rising.next as above}
-use Rattle.papers.proofs.Walking.{read-number, no-number}
+use Rattle.papers.proofs.NumbersWalked.{read-number, no-number}
 use Rattle.model.specs.Scenarios.{digitOf, trueAbducible, falseAbducible}
 use Rattle.lanes.specs.Lanes.{inLane, KeptFrom}
 use Rattle.digits.specs.Digits.{DigitLanes, AbducibleLanes}
 use Rattle.lanes.proofs.LaneLaws.{lane-none}
-use Rattle.digits.proofs.RowLaws.{kept-same, kept-through, kept-set, Cleared}
+use Rattle.digits.proofs.ClearedWords.{kept-same, kept-through, kept-set, Cleared}
 
 -- ---- one abducible more
 

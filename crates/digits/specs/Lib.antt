@@ -1,2 +1,2 @@
--- The digits of 64 scenarios, as words.
+-- The digits of 64 scenarios and their abducible literals, as words.
 pub mod Digits

@@ -9,7 +9,7 @@ use Rattle.literals.specs.Numbering.{falsum}
 use Rattle.papers.specs.Program.{Rule, Program, allRules}
 use Rattle.papers.specs.Encoding.{encodeNumbers, encodeField}
 use Rattle.dual.specs.Table.{foldsOf, foldField, entry, entryIfAny, entriesFrom, dual}
-use Rattle.dual.specs.Encoding.{encodeFields}
+use Rattle.dual.specs.TableEncoding.{encodeFields}
 
 -- The fields of folds.
 abbrev pub foldBytes : List Rule → List ℕ → List ℕ

@@ -1,7 +1,7 @@
 -- Laws of the folds, the facts and the rules' lengths by head: what each list tells of the rules, and of one list after another.
 -- Assumes nothing.
 use mathlib.Core.Path.{_≡_, refl}
-use mathlib.Core.Bool.{Bool, true, false, cond}
+use mathlib.Core.Bool.{Bool, true, false, cond, true≢false}
 use mathlib.Core.List.{List, [], _∷_, _++_, map}
 use Prim.Native.Nat.{ℕ, zero, suc, _+_, _-_, _≤_, _<_}
 use native.Mathlib.Omega.{arith}
@@ -9,14 +9,14 @@ use borrow.Author.Tests.{eqb-true, eq-eqb}
 use lib.Dec.{eqb}
 use lib.ListN.{length, getD, drop}
 use Rattle.literals.specs.Numbering.{defaultConjugate}
-use Rattle.literals.proofs.Laws.{default-twice}
+use Rattle.literals.proofs.NumberingLaws.{default-twice}
 use Rattle.papers.specs.Program.{Rule, Program, allRules, noRule}
 use Rattle.papers.specs.Content.{isAmong}
 use Rattle.papers.specs.Valid.{All, Rising}
 use Rattle.papers.specs.Valid.{All.none as nothing, All.each as each, Rising.none as flat, Rising.next as above}
 use Rattle.papers.proofs.Lists.{all-each}
 use Rattle.dual.specs.Table.{foldsFrom, foldsOf, isEmpty, isFact, foldField}
-use Rattle.dual.specs.Encoding.{numbersOf}
+use Rattle.dual.specs.TableEncoding.{numbersOf}
 use Rattle.dual.specs.Length.{ruleLength, rulesLength}
 
 -- ---- the folds of a head
@@ -83,7 +83,7 @@ folds-among j (r ∷ more) o (suc i) h e =
 -- and nothing else is.
 pub among-all : {P : ℕ → Type 0} {l : List ℕ} → All P l → (k : ℕ) → isAmong l k ≡ true → P k
 unfolding isAmong
-among-all nothing k e = absurd (let z : _≡_ {A = ℕ} 0 1 = cc in omega arith)
+among-all nothing k e = absurd (true≢false cc)
 among-all {P} (each {a} {more} p rest) k e = go (eqb a k) refl e (among-all rest k) where
   go : (b : Bool) → eqb a k ≡ b → cond b true (isAmong more k) ≡ true → (isAmong more k ≡ true → P k) → P k
   go true t e ih = let q : a ≡ k = eqb-true a k t in rw q at p
@@ -132,7 +132,7 @@ pub record SomeFact (rules : List Rule) (o : ℕ) : Type 0 where
 empty-is : (l : List ℕ) → isEmpty l ≡ true → l ≡ []
 unfolding isEmpty
 empty-is [] e = refl
-empty-is (x ∷ more) e = absurd (let z : _≡_ {A = ℕ} 0 1 = cc in omega arith)
+empty-is (x ∷ more) e = absurd (true≢false cc)
 
 some-later : (r : Rule) (more : List Rule) (o : ℕ) → SomeFact more o → SomeFact (r ∷ more) o
 some-later r more o f = record {
@@ -142,7 +142,7 @@ some-later r more o f = record {
 
 pub fact-tells : (rules : List Rule) (o : ℕ) → isFact rules o ≡ true → SomeFact rules o
 unfolding isFact
-fact-tells [] o e = absurd (let z : _≡_ {A = ℕ} 0 1 = cc in omega arith)
+fact-tells [] o e = absurd (true≢false cc)
 fact-tells (r ∷ more) o e = go (eqb (r .head) o) refl (isEmpty (r .body)) refl e (λ f. some-later r more o (fact-tells more o f)) where
   go : (a : Bool) → eqb (r .head) o ≡ a → (b : Bool) → isEmpty (r .body) ≡ b → cond a (cond b true (isFact more o)) (isFact more o) ≡ true
       → (isFact more o ≡ true → SomeFact (r ∷ more) o) → SomeFact (r ∷ more) o

@@ -14,7 +14,7 @@ use Rattle.papers.proofs.NumberLaws.{length-encoded}
 use Rattle.papers.proofs.Sizes.{length-field}
 use Rattle.papers.proofs.Lists.{at-place, past-place}
 use Rattle.dual.specs.Table.{Field, literal, foldsFrom, foldsOf, hasEntry, foldField, entry, entriesFrom, dual}
-use Rattle.dual.specs.Encoding.{tagOf, numbersOf, encodeFields, encodeDual}
+use Rattle.dual.specs.TableEncoding.{tagOf, numbersOf, encodeFields, encodeDual}
 use Rattle.dual.specs.Length.{ruleLength, rulesLength, entriesLength, dualLength}
 use Rattle.dual.proofs.ReadBack.{encodeFields-append}
 

@@ -14,7 +14,7 @@ use Rattle.papers.proofs.NumberLaws.{numbers-encoded}
 use Rattle.papers.proofs.Encoded.{content-encoded}
 use Rattle.papers.proofs.Sizes.{length-field}
 use Rattle.dual.specs.Table.{Field, literal, fold}
-use Rattle.dual.specs.Encoding.{tagOf, numbersOf, encodeFields, encodeDual, fieldFrom, readFields}
+use Rattle.dual.specs.TableEncoding.{tagOf, numbersOf, encodeFields, encodeDual, fieldFrom, readFields}
 
 -- The bytes of one field.
 abbrev encodeOne : Field → List ℕ

@@ -4,7 +4,7 @@ use Prim.Native.Nat.{ℕ}
 use lib.ListN.{length, drop}
 use Rattle.papers.specs.Program.{Program}
 use Rattle.dual.specs.Table.{dual}
-use Rattle.dual.specs.Encoding.{encodeDual}
+use Rattle.dual.specs.TableEncoding.{encodeDual}
 
 abbrev pub dualOf : Program → List ℕ
 dualOf p = encodeDual (dual p)

@@ -1,7 +1,7 @@
 -- What a caller knows that has read both papers and had the dual written.
 -- Assumes nothing.
 use mathlib.Core.Path.{_≡_, refl, sym, ap, _∙_}
-use mathlib.Core.Bool.{Bool, true, false, cond}
+use mathlib.Core.Bool.{Bool, true, false, cond, true≢false}
 use mathlib.Core.List.{List, [], _∷_}
 use mathlib.Core.Logic.{⊎-elim}
 use Prim.Native.Nat.{ℕ, _+_, _-_, _*_, _^_, _<_, _≤_}
@@ -22,14 +22,14 @@ use Rattle.papers.specs.Answers.{papersAnswer}
 use Rattle.papers.specs.declared.Bare.the-variants as bare
 use Rattle.papers.specs.Told.{tells, bareTold}
 use Rattle.papers.proofs.NumberLaws.{Bytes}
-use Rattle.papers.proofs.Answered.{papers-accepted}
-use Rattle.papers.proofs.PapersAnswers.{BothTold}
+use Rattle.papers.proofs.ReadersGot.{papers-accepted}
+use Rattle.papers.proofs.BothAccepted.{BothTold}
 use Rattle.dual_writer.proofs.DualWritten.{the-type}
 use Rattle.dual_writer.specs.declared.DualWritten.{DualWritten}
 use Rattle.dual_writer.specs.declared.DualWritten.the-variants.{Length, Short, Refused}
 use Rattle.dual.specs.Bytes.{dualOf, filled}
-use Rattle.dual_writer.specs.Answers.{writtenTold, dualTold, dualAfter}
-use Rattle.dual_writer.proofs.ToldLaws.{writtenFrom, written-from}
+use Rattle.dual_writer.specs.WrittenDual.{writtenTold, dualTold, dualAfter}
+use Rattle.dual_writer.proofs.WrittenTold.{writtenFrom, written-from}
 use Rattle.papers.proofs.FileFacts.{program-valid, abducibles-are}
 
 -- ---- the papers
@@ -75,8 +75,8 @@ module _ {file sheet : List ℕ} {contents : Contents} {literals : ℕ} (both : 
 -- One of the two other answers was told: it is no length.
 pub other-told : (w : DualWritten) → OneOf (1 ∷ 2 ∷ []) (tagOf the-type w) → (n : ℕ) → w ≡ Length n → ⊥
 other-told (Length m) k n e = ⊎-elim (λ (h : _≡_ {A = ℕ} 0 1). omega arith) (λ (h : _≡_ {A = ℕ} 0 2). omega arith) k
-other-told Short k n e = let z : _≡_ {A = ℕ} 0 1 = cc in omega arith
-other-told (Refused r) k n e = let z : _≡_ {A = ℕ} 0 1 = cc in omega arith
+other-told Short k n e = true≢false cc
+other-told (Refused r) k n e = true≢false cc
 
 -- What writing has to tell, by whether it fits.
 told-by : {p : Program} {o : Outcome Program} → o ≡ accepted p → (room : ℕ) (b : Bool) → leb (length (dualOf p)) room ≡ b
@@ -93,7 +93,7 @@ module _ {p : Program} {o : Outcome Program} (is : o ≡ accepted p) (dual : Lis
     where
       go : (b : Bool) → leb (length (dualOf p)) (length dual) ≡ b → length (dualOf p) ≤ length dual
       go true h = leb-true (length (dualOf p)) (length dual) h
-      go false h = absurd (let q = sym (ap writtenTold e) ∙ told ∙ told-by is (length dual) false h in let z : _≡_ {A = ℕ} 0 1 = cc in omega arith)
+      go false h = absurd (let q = sym (ap writtenTold e) ∙ told ∙ told-by is (length dual) false h in true≢false cc)
 
   -- There is no room for it.
   pub dual-short : ((n : ℕ) → written ≡ Length n → ⊥) → length dual < length (dualOf p)

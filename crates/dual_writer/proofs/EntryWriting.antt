@@ -13,7 +13,7 @@ use Rattle.papers.specs.Valid.{All}
 use Rattle.papers.proofs.Lists.{first-of}
 use Rattle.dual.specs.Table.{literal, foldsOf, foldField, entry}
 use Rattle.dual.specs.Table as table
-use Rattle.dual.specs.Encoding.{encodeFields}
+use Rattle.dual.specs.TableEncoding.{encodeFields}
 use Rattle.dual_writer.specs.Chains.{Chain, foldsAt, ChainsOf}
 use Rattle.dual.specs.Bytes.{filled}
 use Rattle.dual.proofs.AllEntries.{foldBytes, entry-is}

@@ -1,10 +1,17 @@
--- The chains of folds, and the table as the loops that measure and write it meet it: its fields, an entry's length, an entry, all entries.
+-- ---- the dual as the loops that measure and write it meet it
+
+-- The chains of folds.
 mod ChainLaws
+-- The two kinds of field.
 mod WritingLaws
+-- The length of an entry.
 mod EntryLaws
+-- An entry.
 mod EntryWriting
+-- All entries, and the end.
 mod TableWriting
--- What is told of an answer fixes it.
-pub mod ToldLaws
--- What a caller knows that has read both papers and had the dual written.
+-- ---- for callers
+-- What is told fixes the answer.
+pub mod WrittenTold
+-- What is known once both papers are read and the dual is written.
 pub mod BothPapers

@@ -15,11 +15,11 @@ use Rattle.papers.specs.Reading.{readFile}
 use Rattle.papers.specs.Encoding.{encodeField}
 use Rattle.papers.specs.Told.{tells}
 use Rattle.dual.specs.Table.{Field, hasEntry, entry, entryIfAny, entriesFrom, dual}
-use Rattle.dual.specs.Encoding.{encodeFields, encodeDual}
+use Rattle.dual.specs.TableEncoding.{encodeFields, encodeDual}
 use Rattle.dual.specs.Length.{rulesLength, dualLength}
 use Rattle.dual_writer.specs.declared.DualWritten.the-variants.{Length, Short}
 use Rattle.dual.specs.Bytes.{dualOf, filled}
-use Rattle.dual_writer.specs.Answers.{writtenTold, dualTold, dualAfter}
+use Rattle.dual_writer.specs.WrittenDual.{writtenTold, dualTold, dualAfter}
 use Rattle.dual.proofs.AllEntries.{entries-more}
 use Rattle.dual.proofs.Lengths.{dual-length}
 use Rattle.dual.proofs.ReadBack.{encodeFields-append}

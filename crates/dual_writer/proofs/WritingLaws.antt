@@ -9,7 +9,7 @@ use Rattle.literals.specs.Numbering.{defaultConjugate}
 use Rattle.papers.specs.Field.{number, numbers}
 use Rattle.papers.specs.Encoding.{encodeNumbers, encodeField}
 use Rattle.papers.proofs.NumberLaws.{length-encoded}
-use Rattle.papers.proofs.Walking.{read-number, no-number}
+use Rattle.papers.proofs.NumbersWalked.{read-number, no-number}
 use Rattle.dual.specs.Bytes.{filled}
 use Rattle.dual_writer.specs.Chains.{Chain}
 use Rattle.dual_writer.proofs.ChainLaws.{Following, following-starts, following-done, following-link, following-room, following-next}

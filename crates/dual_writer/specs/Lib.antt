@@ -1,3 +1,6 @@
--- The folds by their heads, as the writer of a dual walks them; and what it answers.
+-- Writing the dual.
+
+-- The folds of a head, as a chain through a table.
 pub mod Chains
-pub mod Answers
+-- What writing tells, and what the lent buffer then holds.
+pub mod WrittenDual

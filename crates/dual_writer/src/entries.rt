@@ -11,7 +11,7 @@ ghost use Rattle.papers.specs.Answers.{fileAnswer};
 ghost use Rattle.papers.specs.Places.{Walked};
 ghost use lib.ListN.{length};
 ghost use Rattle.dual.specs.Table.{hasEntry, isFact, entry, entryIfAny, dual};
-ghost use Rattle.dual.specs.Encoding.{encodeFields};
+ghost use Rattle.dual.specs.TableEncoding.{encodeFields};
 ghost use Rattle.dual.specs.Bytes.{filled};
 ghost use Rattle.dual.specs.Length.{rulesLength, dualLength};
 ghost use Rattle.dual_writer.specs.Chains.{ChainsOf};

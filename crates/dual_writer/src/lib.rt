@@ -8,7 +8,7 @@ ghost use mathlib.Core.Bool.{cond};
 ghost use lib.ListN.{length};
 ghost use Rattle.papers.specs.Reading.{readFile};
 ghost use Rattle.papers.specs.Places.{Walked};
-ghost use Rattle.dual_writer.specs.Answers.{writtenTold, dualTold, dualAfter};
+ghost use Rattle.dual_writer.specs.WrittenDual.{writtenTold, dualTold, dualAfter};
 use chains::fold_chains;
 use entries::dual_length;
 use entries::write_entries;

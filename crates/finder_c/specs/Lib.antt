@@ -1,2 +1,2 @@
--- What the C functions write into the caller's eight words.
-pub mod Words
+-- What the C functions write into the eight words that the caller lends.
+pub mod AnswerWords

@@ -5,7 +5,7 @@ use Prim.Native.Nat.{ℕ, _+_, _*_, _/_, _%_, _≤_, _<_}
 use borrow.Author.Tests.{eq-eqb, ne-eqb}
 use lib.ListN.{length, getD, drop}
 use Rattle.papers.specs.Field.{number, numbers}
-use Rattle.papers.proofs.Walking.{read-number, no-number}
+use Rattle.papers.proofs.NumbersWalked.{read-number, no-number}
 use Rattle.decimals.specs.Decimal.{decimal}
 use Rattle.decimals.specs.Text.{spaced}
 use Rattle.found_lines.specs.FoundLine.{sign, assumption, assumptions}

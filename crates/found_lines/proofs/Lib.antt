@@ -1,4 +1,8 @@
--- The items of a found line, how long it is, and examples.
+-- The line of an explanation.
+
+-- Its items: each assumed or ruled-out abducible.
 pub mod Items
+-- How long it is at most.
 pub mod LineLengths
-pub mod Examples
+-- Lines, computed.
+pub mod FoundLineExamples

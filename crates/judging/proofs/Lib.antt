@@ -1,4 +1,6 @@
 -- Judging from its parts.
+
+-- A law for each of its answers.
 pub mod JudgingLaws
--- What is told of an answer fixes it.
-pub mod ToldLaws
+-- What is told of a judgement fixes the answer.
+pub mod JudgedTold

@@ -1,7 +1,7 @@
 -- Laws of lanes: bit l of words joined and negated; two words with the same bits are one; the set of a lane; the sum of the words.
 -- Assumes nothing.
 use mathlib.Core.Path.{_≡_, refl, sym, ap, subst, _∙_}
-use mathlib.Core.Bool.{true, false, not}
+use mathlib.Core.Bool.{true, false, not, true≢false}
 use mathlib.Core.List.{List, [], _∷_}
 use Prim.Native.Nat.{ℕ, zero, suc, _+_, _-_, _/_, _%_, _^_, _≤_, _<_, min, max}
 use native.Mathlib.Decide.{ℕ-discrete}
@@ -13,7 +13,7 @@ use lib.Dec.{eqb}
 use lib.ListN.{length, getD, set}
 use lib.Seq.{getD-set-same, getD-set-other}
 use lib.Pow.{high, low, ones-split, ones-lt, shr-shr, pow-pos}
-use Rattle.model.specs.Tests.{_and_, _or_}
+use Rattle.papers.specs.Tests.{_and_, _or_}
 use Rattle.model.specs.Sets.{has, complement, sameFlag}
 use Rattle.lanes.specs.Lanes.{inLane, lane, NoneBeyond, KeptFrom, Written}
 use Rattle.lanes.specs.Words.{otherWord, Laned, total}
@@ -162,9 +162,9 @@ bits-same (suc n) a b h k e =
 
 same-flag : (x y : ℕ) → x < 2 → y < 2 → eqb x 1 ≡ eqb y 1 → x ≡ y
 same-flag zero zero h k e = refl
-same-flag zero (suc zero) h k e = absurd (let z : _≡_ {A = ℕ} 0 1 = cc in omega arith)
+same-flag zero (suc zero) h k e = absurd (true≢false cc)
 same-flag zero (suc (suc y)) h k e = absurd (omega arith)
-same-flag (suc zero) zero h k e = absurd (let z : _≡_ {A = ℕ} 0 1 = cc in omega arith)
+same-flag (suc zero) zero h k e = absurd (true≢false cc)
 same-flag (suc zero) (suc zero) h k e = refl
 same-flag (suc zero) (suc (suc y)) h k e = absurd (omega arith)
 same-flag (suc (suc x)) y h k e = absurd (omega arith)

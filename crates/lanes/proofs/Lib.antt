@@ -1,4 +1,6 @@
--- Sixty-four scenarios in words, as the code meets them: the lanes of a word,
+-- Laws of lanes.
+
+-- Bit l of words joined and negated; the set of a lane.
 pub mod LaneLaws
--- and the words of literals and bodies.
+-- A literal's word and a body's, as the code that reads them meets them.
 pub mod WordLaws

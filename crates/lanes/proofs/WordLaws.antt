@@ -11,12 +11,12 @@ use lib.ListN.{length, getD, drop, drop-of-length-le}
 use lib.Seq.{drop-cons}
 use Rattle.literals.specs.Numbering.{objectiveNumber, defaultNegated}
 use Rattle.papers.proofs.Lists.{all-each, first-of}
-use Rattle.model.specs.Tests.{_and_}
+use Rattle.papers.specs.Tests.{_and_}
 use Rattle.model.specs.Sets.{has}
 use Rattle.model.specs.LeastSet.{literalHolds, bodyHolds}
 use Rattle.lanes.specs.Lanes.{inLane, lane}
 use Rattle.lanes.specs.Words.{wordOf, Below, Literals, BodyWord}
-use Rattle.model.proofs.TestLaws.{false-and, and-true, and-assoc}
+use Rattle.papers.proofs.TestLaws.{false-and, and-true, and-assoc}
 use Rattle.lanes.proofs.LaneLaws.{lane-and, lane-none, has-lane}
 
 -- ---- a literal

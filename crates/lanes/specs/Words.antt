@@ -8,7 +8,7 @@ use lib.ListN.{length, getD}
 use Rattle.literals.specs.Numbering.{objectiveNumber, defaultNegated}
 use Rattle.papers.specs.Valid.{All}
 use Rattle.model.specs.LeastSet.{bodyHolds}
-use Rattle.model.specs.Tests.{_and_}
+use Rattle.papers.specs.Tests.{_and_}
 use Rattle.lanes.specs.Lanes.{inLane, lane}
 
 -- The other lanes of a word.

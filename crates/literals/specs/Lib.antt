@@ -1,1 +1,2 @@
+-- Document 01, "Numberings": the four of them and the conversions.
 pub mod Numbering

@@ -11,7 +11,7 @@ use lib.ListN.{length, getD}
 use Rattle.literals.specs.Numbering.{objectiveNumber, defaultNegated, judged, falsum}
 use Rattle.papers.specs.Program.{Program, Query}
 use Rattle.papers.specs.Valid.{All, All.none as nothing, All.each as each}
-use Rattle.model.specs.Tests.{_and_, _or_}
+use Rattle.papers.specs.Tests.{_and_, _or_}
 use Rattle.model.specs.Sets.{Set, has}
 use Rattle.model.specs.LeastSet.{literalHolds, bodyHolds}
 use Rattle.model.specs.Model.{model, valueByte, valueBytes, modelBytes, queryLiteralHolds, queryHolds, explainsBy, explains}

@@ -7,12 +7,12 @@ use native.Mathlib.Omega.{arith}
 use borrow.Author.Tests.{lt-ltb}
 use lib.Dec.{T, T-not}
 use Rattle.literals.specs.Numbering.{explicitConjugate, judged}
-use Rattle.literals.proofs.Laws.{explicit-twice, explicit-below}
+use Rattle.literals.proofs.NumberingLaws.{explicit-twice, explicit-below}
 use Rattle.papers.specs.Program.{Rule, Program, allRules}
 use Rattle.model.specs.Sets.{Set, has}
 use Rattle.model.specs.LeastSet.{Reduct, step, least}
 use Rattle.model.specs.Model.{conjugateIn, possibleReduct, possibleSet, falseSet, successor, model}
-use Rattle.model.proofs.TestLaws.{both, left}
+use Rattle.papers.proofs.TestLaws.{both, left}
 use Rattle.model.proofs.SetLaws.{has-within, setOf-in, complement-of}
 use Rattle.model.proofs.LeastLaws.{least-length, least-fixed, has-step}
 use Rattle.model.proofs.Rounds.{model-fixed}

@@ -12,21 +12,21 @@ use Rattle.papers.specs.Program.{Program, allRules}
 use Rattle.papers.specs.Content.{isAmong}
 use Rattle.papers.specs.Valid.{Valid}
 use Rattle.dual.specs.Table.{Field, literal, fold, foldsOf, isFact, hasEntry, dual}
-use Rattle.model.specs.Tests.{_and_, _or_}
+use Rattle.papers.specs.Tests.{_and_, _or_}
 use Rattle.model.specs.Sets.{Set, has, empty, full, complement}
 use Rattle.model.specs.Iteration.{iterate}
 use Rattle.model.specs.Scenarios.{trueAbducible, undefinedAbducible, falseAbducible}
 use Rattle.model.specs.LeastSet.{supported, step, least}
 use Rattle.model.specs.Model.{conjugateIn, possibleReduct, possibleSet, falseSet}
 use Rattle.model.specs.Falsity.{someHolds, foldsHold, entryHolds, listedBy, backed, backedSet, greatest}
-use Rattle.model.proofs.TestLaws.{or-mono, and-mono, false-or, or-false, true-and, false-and, unless}
+use Rattle.papers.proofs.TestLaws.{or-mono, and-mono, false-or, or-false, true-and, false-and, unless}
 use Rattle.model.proofs.SetLaws.{Sub, has-setOf, length-setOf, setOf-in, setOf-of, setOf-mono, set-ext, sub-refl, sub-antisym, has-within}
 use Rattle.model.proofs.SetLaws.{length-complement, has-complement, full-complement}
 use Rattle.model.proofs.Fixpoints.{down-sized, down-fixed, down-greatest}
 use Rattle.model.proofs.LeastLaws.{literal-mono, has-step}
 use Rattle.model.proofs.ScenarioLaws.{abducible-split, other-possible, other-false, has-possible}
 use Rattle.model.proofs.Fields.{entry-dual}
-use Rattle.model.proofs.Conjugates.{folds-dual, abducible-unsupported, fact-supported}
+use Rattle.model.proofs.FoldsHold.{folds-dual, abducible-unsupported, fact-supported}
 
 -- ---- greatest among the backed, over any fields
 

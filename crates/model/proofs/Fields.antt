@@ -14,10 +14,10 @@ use Rattle.papers.specs.Program.{Rule, Program, allRules, noRule}
 use Rattle.papers.specs.Content.{isAmong}
 use Rattle.dual.specs.Table.{Field, foldsOf, hasEntry, foldField, entry, entriesFrom, dual}
 use Rattle.dual.proofs.Folds.{FoldIn, folds-of-among}
-use Rattle.model.specs.Tests.{_and_, _or_}
+use Rattle.papers.specs.Tests.{_and_, _or_}
 use Rattle.model.specs.Sets.{Set}
 use Rattle.model.specs.Falsity.{listedBy, foldsHold, entryHolds}
-use Rattle.model.proofs.TestLaws.{or-false, false-or, false-and, true-and}
+use Rattle.papers.proofs.TestLaws.{or-false, false-or, false-and, true-and}
 
 -- The default conjugates of a rule's body.
 abbrev pub conjugates : List Rule → ℕ → List ℕ

@@ -9,10 +9,10 @@ use lib.Dec.{T}
 use lib.ListN.{length}
 use Rattle.literals.specs.Numbering.{objectiveNumber, defaultNegated}
 use Rattle.papers.specs.Program.{Rule}
-use Rattle.model.specs.Tests.{_and_, _or_}
+use Rattle.papers.specs.Tests.{_and_, _or_}
 use Rattle.model.specs.Sets.{Set, has}
 use Rattle.model.specs.LeastSet.{literalHolds, bodyHolds, supported, Reduct, step, least}
-use Rattle.model.proofs.TestLaws.{both, left, right, either, either-left, either-right, or-mono, and-mono}
+use Rattle.papers.proofs.TestLaws.{both, left, right, either, either-left, either-right, or-mono, and-mono}
 use Rattle.model.proofs.SetLaws.{Sub, length-setOf, has-setOf, setOf-in, setOf-of, setOf-mono, sub-refl, sub-antisym}
 use Rattle.model.proofs.Fixpoints.{up-sized, up-fixed, up-least}
 

@@ -11,10 +11,10 @@ use lib.Dec.{T, eqb}
 use lib.ListN.{length, getD}
 use Rattle.literals.specs.Numbering.{defaultNegated}
 use Rattle.papers.specs.Program.{Rule, noRule}
-use Rattle.model.specs.Tests.{_and_, _or_}
+use Rattle.papers.specs.Tests.{_and_, _or_}
 use Rattle.model.specs.Sets.{Set, has}
 use Rattle.model.specs.LeastSet.{literalHolds, bodyHolds, supported, Reduct, least}
-use Rattle.model.proofs.TestLaws.{right, and-mono, either, either-left, either-right, or-assoc, false-or}
+use Rattle.papers.proofs.TestLaws.{right, and-mono, either, either-left, either-right, or-assoc, false-or}
 use Rattle.model.proofs.SetLaws.{has-within, sub-antisym}
 use Rattle.model.proofs.LeastLaws.{Closed, has-step, least-length, least-fixed, least-closed, least-in}
 use Rattle.model.proofs.Support.{supported-tells, supported-is}

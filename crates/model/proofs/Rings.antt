@@ -9,7 +9,7 @@ use native.Mathlib.Omega.{arith}
 use lib.Dec.{T, eqb→eq}
 use lib.ListN.{length}
 use Rattle.literals.specs.Numbering.{defaultConjugate, defaultNegated, objectiveNumber, judged}
-use Rattle.literals.proofs.Laws.{default-same-objective}
+use Rattle.literals.proofs.NumberingLaws.{default-same-objective}
 use Rattle.papers.specs.Program.{Rule, Program, allRules}
 use Rattle.papers.specs.Valid.{All, All.none as nothing, All.each as each, Valid}
 use Rattle.dual.specs.Table.{dual}
@@ -18,13 +18,13 @@ use Rattle.model.specs.Scenarios.{possibleAbducibles}
 use Rattle.model.specs.LeastSet.{literalHolds, bodyHolds, supported}
 use Rattle.model.specs.Model.{possibleReduct, falseSet}
 use Rattle.model.specs.Falsity.{someHolds}
-use Rattle.model.specs.Computing.{falsity}
-use Rattle.model.proofs.Examples.{two, ringOfTwo}
-use Rattle.model.proofs.TestLaws.{left, right, either}
+use Rattle.model.specs.ComputingModels.{falsity}
+use Rattle.model.proofs.FalsityExamples.{two, ringOfTwo}
+use Rattle.papers.proofs.TestLaws.{left, right, either}
 use Rattle.model.proofs.SetLaws.{Sub, empty-out, has-within, complement-in, complement-of}
 use Rattle.model.proofs.LeastLaws.{Closed}
 use Rattle.model.proofs.Rounds.{possible-least}
-use Rattle.model.proofs.Conjugates.{conjugate-negated}
+use Rattle.model.proofs.FoldsHold.{conjugate-negated}
 use Rattle.model.proofs.FalsityLaws.{Backed, greatest-holds, falsity-from-dual}
 
 -- ---- by the rules

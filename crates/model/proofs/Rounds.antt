@@ -15,7 +15,7 @@ use Rattle.model.specs.Sets.{Set, complement}
 use Rattle.model.specs.Iteration.{iterate}
 use Rattle.model.specs.Model.{conjugateIn, Interpretation, sameInterpretation, trueReduct, possibleReduct, trueSet, possibleSet, falseSet}
 use Rattle.model.specs.Model.{successor, start, interpretationAt, rounds, model}
-use Rattle.model.proofs.TestLaws.{both, left, right, and-mono, is-true, is-false}
+use Rattle.papers.proofs.TestLaws.{both, left, right, and-mono, is-true, is-false}
 use Rattle.model.proofs.SetLaws.{Sub, length-empty, length-complement, complement-twice, setOf-mono, complement-mono, sub-refl, sub-trans, empty-sub}
 use Rattle.model.proofs.SetLaws.{count, count-le, grows, sameSet-eq, sameSet-refl}
 use Rattle.model.proofs.Chain.{rests, still-on, first-le, first-still, none-before}

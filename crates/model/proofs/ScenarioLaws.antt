@@ -13,7 +13,7 @@ use Rattle.literals.specs.Numbering.{atomNumber, explicitlyNegated, judged}
 use Rattle.papers.specs.Program.{Program}
 use Rattle.papers.specs.Content.{isAmong}
 use Rattle.papers.specs.Valid.{Rising, Rising.none as flat, Rising.next as above}
-use Rattle.model.specs.Tests.{_or_}
+use Rattle.papers.specs.Tests.{_or_}
 use Rattle.model.specs.Sets.{has}
 use Rattle.model.specs.Scenarios.{digitOf, trueAbducible, undefinedAbducible, falseAbducible, trueAbducibles, possibleAbducibles}
 use Rattle.model.proofs.SetLaws.{has-setOf}

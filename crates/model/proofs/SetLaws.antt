@@ -10,7 +10,7 @@ use native.Mathlib.Omega.{arith}
 use lib.Dec.{T, T-not, not-T}
 use lib.ListN.{length, length-replicate}
 use lib.Seq.{ext-getD}
-use Rattle.model.specs.Tests.{_and_}
+use Rattle.papers.specs.Tests.{_and_}
 use Rattle.model.specs.Sets.{Set, has, flagsFrom, setOf, empty, full, complement, sameFlag, sameSet}
 
 -- Every member of s is one of t.

@@ -8,10 +8,10 @@ use native.Mathlib.Omega.{arith}
 use lib.Dec.{T, eqb→eq, eqb-refl}
 use lib.ListN.{length, getD}
 use Rattle.papers.specs.Program.{Rule, noRule}
-use Rattle.model.specs.Tests.{_or_}
+use Rattle.papers.specs.Tests.{_or_}
 use Rattle.model.specs.Sets.{Set}
 use Rattle.model.specs.LeastSet.{bodyHolds, supported}
-use Rattle.model.proofs.TestLaws.{both, left, right, either, either-left, either-right}
+use Rattle.papers.proofs.TestLaws.{both, left, right, either, either-left, either-right}
 
 -- o "heads a rule whose" body holds: the rule with fold number `index`.
 pub record Supports (set negated : Set) (rules : List Rule) (o index : ℕ) : Type 0 where

@@ -8,13 +8,13 @@ use Prim.Native.Nat.{ℕ, _<_}
 use lib.Dec.{T}
 use Rattle.literals.specs.Numbering.{judged}
 use Rattle.papers.specs.Program.{Rule, Program, allRules}
-use Rattle.model.specs.Tests.{_or_}
+use Rattle.papers.specs.Tests.{_or_}
 use Rattle.model.specs.Sets.{Set, has, setOf}
 use Rattle.model.specs.Iteration.{iterate}
 use Rattle.model.specs.Scenarios.{trueAbducibles}
 use Rattle.model.specs.LeastSet.{Reduct, least}
 use Rattle.model.specs.Model.{trueReduct, trueSet, successor, interpretationAt}
-use Rattle.model.proofs.TestLaws.{either, either-left}
+use Rattle.papers.proofs.TestLaws.{either, either-left}
 use Rattle.model.proofs.SetLaws.{Sub, setOf-in, setOf-of, sub-antisym}
 use Rattle.model.proofs.LeastLaws.{least-length, least-closed, least-in}
 use Rattle.model.proofs.Rounds.{increasing}

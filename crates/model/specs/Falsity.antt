@@ -8,7 +8,7 @@ use lib.Dec.{eqb}
 use Rattle.literals.specs.Numbering.{judged}
 use Rattle.papers.specs.Program.{Program}
 use Rattle.dual.specs.Table.{Field, literal, fold}
-use Rattle.model.specs.Tests.{_and_, _or_}
+use Rattle.papers.specs.Tests.{_and_, _or_}
 use Rattle.model.specs.Sets.{Set, setOf, full}
 use Rattle.model.specs.Iteration.{iterate}
 use Rattle.model.specs.Scenarios.{falseAbducible}

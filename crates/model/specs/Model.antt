@@ -6,7 +6,7 @@ use lib.Dec.{eqb}
 use lib.ListN.{getD}
 use Rattle.literals.specs.Numbering.{explicitConjugate, objectiveNumber, defaultNegated, judged, falsum, listed}
 use Rattle.papers.specs.Program.{Program, Query, allRules}
-use Rattle.model.specs.Tests.{_and_, _or_}
+use Rattle.papers.specs.Tests.{_and_, _or_}
 use Rattle.model.specs.Sets.{Set, has, setOf, empty, full, complement, sameSet}
 use Rattle.model.specs.Iteration.{iterate, firstStill}
 use Rattle.model.specs.Scenarios.{trueAbducibles, possibleAbducibles}

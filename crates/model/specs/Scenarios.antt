@@ -6,7 +6,7 @@ use Prim.Native.Nat.{ℕ, _/_, _%_}
 use lib.Dec.{eqb}
 use Rattle.literals.specs.Numbering.{atomNumber, explicitlyNegated, judged}
 use Rattle.papers.specs.Program.{Program}
-use Rattle.model.specs.Tests.{_or_}
+use Rattle.papers.specs.Tests.{_or_}
 use Rattle.model.specs.Sets.{Set, setOf}
 
 -- "Digit i of s in base 3, lowest first, belongs to the i-th abducible": an atom's digit. One that is not abducible has none: 3.

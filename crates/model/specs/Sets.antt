@@ -3,7 +3,7 @@ use mathlib.Core.Bool.{Bool, true, false, not}
 use mathlib.Core.List.{List, [], _∷_}
 use Prim.Native.Nat.{ℕ, zero, suc}
 use lib.ListN.{getD, replicate}
-use Rattle.model.specs.Tests.{_and_}
+use Rattle.papers.specs.Tests.{_and_}
 
 abbrev pub Set : Type 0
 Set = List Bool

@@ -1,2 +1,2 @@
--- Laws of arrays that are written from their start on, and of orders that were tested.
+-- Arrays that are written from their start on, and visits in an order that was tested.
 pub mod OrderLaws

@@ -1,2 +1,2 @@
--- Orders that were tested.
+-- An order that was tested, and what is written from an array's start on.
 pub mod Orders

@@ -1,7 +1,7 @@
 -- Laws of checks and outcomes: what passed checks tell, and what was accepted on the way to an acceptance.
 -- Assumes nothing.
 use mathlib.Core.Path.{_≡_, refl}
-use mathlib.Core.Bool.{Bool, true, false, _&&_}
+use mathlib.Core.Bool.{Bool, true, false, _&&_, true≢false}
 use Prim.Native.Nat.{ℕ, zero, suc}
 use native.Mathlib.Omega.{arith}
 use Rattle.papers.specs.declared.Paper.{Paper}
@@ -13,7 +13,7 @@ use Rattle.papers.specs.Outcome.{Outcome, accepted, refused, refusal, ch
 -- Of two tests that pass, each does.
 pub both : (a b : Bool) → (a && b) ≡ true → (a ≡ true) × (b ≡ true)
 both true b e = (refl, e)
-both false b e = absurd (let z : _≡_ {A = ℕ} 0 1 = cc in omega arith)
+both false b e = absurd (true≢false cc)
 
 -- A check that failed has a number above 0, so where the checks give 0 this one passed, and so did the others.
 pub checked : (b : Bool) (n others : ℕ) → check b (suc n) others ≡ 0 → (b ≡ true) × (others ≡ 0)
@@ -23,7 +23,7 @@ checked false n others e = absurd (omega arith)
 module _ {A : Type 0} where
   -- A refusal is no acceptance.
   pub refused-not : {X : Type 0} {r : Refusal} {a : A} → refused r ≡ accepted a → X
-  refused-not e = absurd (let z : _≡_ {A = ℕ} 0 1 = cc in omega arith)
+  refused-not e = absurd (true≢false cc)
 
   -- What was accepted after checks: they passed.
   pub passed : (n : ℕ) (paper : Paper) (place : ℕ) (next : Outcome A) {a : A} → passing n paper place next ≡ accepted a

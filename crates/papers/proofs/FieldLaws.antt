@@ -1,7 +1,7 @@
 -- Laws of one field: what a whole one tells.
 -- Assumes nothing.
 use mathlib.Core.Path.{_≡_, refl, sym, ap, _∙_}
-use mathlib.Core.Bool.{Bool, true, false, _&&_, cond}
+use mathlib.Core.Bool.{Bool, true, false, _&&_, cond, true≢false}
 use mathlib.Core.List.{List}
 use Prim.Native.Nat.{ℕ, _+_, _-_, _*_, _%_, _≤_}
 use native.Mathlib.Omega.{arith}
@@ -61,4 +61,4 @@ unfolding lengthAllowed
 allowed-even tag len h e = go (eqb (len % 2) 0) refl (rw (ne-eqb tag 1 h) at e) where
   go : (b : Bool) → eqb (len % 2) 0 ≡ b → cond b (leb (2 * fewest tag) len && leb len (2 * most tag)) false ≡ true → len % 2 ≡ 0
   go true t e = eqb-true _ _ t
-  go false t e = absurd (let z : _≡_ {A = ℕ} 0 1 = cc in omega arith)
+  go false t e = absurd (true≢false cc)

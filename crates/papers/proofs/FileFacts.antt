@@ -12,7 +12,7 @@ use Rattle.papers.specs.Reading.{readFile, programIn}
 use Rattle.papers.specs.Valid.{Valid}
 use Rattle.papers.specs.Answers.{contentsOf, fileAnswer}
 use Rattle.papers.proofs.Accepted.{accepted-valid}
-use Rattle.papers.proofs.Answered.{file-accepted}
+use Rattle.papers.proofs.ReadersGot.{file-accepted}
 
 -- The answer of an accepted file tells of the program in it.
 pub record Told (bytes : List ℕ) (contents : Contents) : Type 0 where

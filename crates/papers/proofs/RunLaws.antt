@@ -1,7 +1,7 @@
 -- What an accepted run of fields tells: how far it goes, and of each of its fields that length and content are good.
 -- Assumes nothing.
 use mathlib.Core.Path.{_≡_, refl}
-use mathlib.Core.Bool.{Bool, true, false, cond}
+use mathlib.Core.Bool.{Bool, true, false, cond, true≢false}
 use mathlib.Core.List.{List, []}
 use Prim.Native.Nat.{ℕ, zero, suc, _+_, _*_, _≤_}
 use native.Mathlib.Omega.{arith}
@@ -51,7 +51,7 @@ module _ (tag n : ℕ) (abducibles bytes : List ℕ) where
         let f = through (readField File tag true place bytes) none-more e in
         let field = field-tells File tag true place bytes _ (f .first) in
         let full : true ≡ false = field .room in
-        absurd (let z : _≡_ {A = ℕ} 0 1 = cc in omega arith)
+        absurd (true≢false cc)
     go false t e = ended-at zero place run t e
   run-reads (suc room) place run e = go (run-reads room) (eqb (getD (drop place bytes) 0 0) tag) refl e where
     after : List ℕ → Outcome Run

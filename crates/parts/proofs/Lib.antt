@@ -1,3 +1,6 @@
 -- Laws of parts.
-pub mod PartLaws
+
+-- Visits, and the parts that they are marked with.
+pub mod MarkedParts
+-- How far rows ask, and the marks that are set by it.
 pub mod ReachLaws

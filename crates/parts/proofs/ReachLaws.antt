@@ -13,7 +13,7 @@ use lib.ListN.{length, getD, set, length-set}
 use lib.Seq.{getD-set-same, getD-set-other}
 use Rattle.parts.specs.Parts.{placeOf, endsPart, Unmarked, Marked, Asks, headAt, Parted}
 use Rattle.parts.specs.Reaches.{Lasts, Within, Reaches, RowReaches}
-use Rattle.parts.proofs.PartLaws.{unmarked-place}
+use Rattle.parts.proofs.MarkedParts.{unmarked-place}
 
 -- ---- numbers in an array
 

@@ -11,7 +11,7 @@ use Rattle.dual.specs.Bytes.{filled}
 use Rattle.arrays.specs.Staying.{StaysFrom}
 use Rattle.rows.specs.Visits.{Meets, Visits}
 use Rattle.parts.specs.Parts.{placeOf, endsPart, placesOf, Unmarked, Marked, Asks, headAt, Parted}
-use Rattle.parts.proofs.PartLaws.{place-at}
+use Rattle.parts.proofs.MarkedParts.{place-at}
 use Rattle.rows.specs.Rows.{joined, Starts, Prepared}
 use Rattle.rows.proofs.RowLaws.{row-within, rows-stand}
 

@@ -20,9 +20,9 @@ use Rattle.dual.specs.Bytes.{dualOf}
 use Rattle.dual.proofs.Lengths.{dual-length}
 use Rattle.dual.proofs.Bound.{dual-bound}
 use Rattle.model.proofs.Rounds.{rounds-le}
-use Rattle.steps.specs.Scenarios.{Problem, scenarios}
+use Rattle.steps.specs.Explanations.{Problem, scenarios}
 use Rattle.trying.specs.Trying.{problemOf}
-use Rattle.printout.specs.Search.{problemFor}
+use Rattle.printout.specs.DeskSearch.{problemFor}
 
 pub problem-is : {read : Outcome Papers} {q : Papers} → read ≡ accepted q → problemFor read ≡ problemOf q
 unfolding problemFor

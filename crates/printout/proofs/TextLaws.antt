@@ -10,10 +10,10 @@ use lib.Dec.{T, ltb, ltb→lt}
 use Rattle.papers.specs.Valid.{All}
 use Rattle.papers.specs.Outcome.{Outcome, accepted}
 use Rattle.papers.specs.Reading.{Papers}
-use Rattle.steps.specs.Scenarios.{Problem, scenarios, minimals, stop, sumBelow}
+use Rattle.papers.proofs.TestLaws.{left, right}
+use Rattle.steps.specs.Explanations.{Problem, scenarios, minimals, stop, sumBelow}
 use Rattle.steps.specs.Spoilt.{allBelow}
 use Rattle.trying.specs.Trying.{problemOf}
-use Rattle.steps.proofs.Tests.{left, right}
 use Rattle.steps.proofs.Stopping.{stop-le, stop-count}
 use Rattle.steps.proofs.Sound.{minimals-below}
 use Rattle.decimals.specs.Text.{Put}
@@ -22,7 +22,7 @@ use Rattle.report.specs.Lines.{headingLine, lastLine}
 use Rattle.decimals.proofs.Putting.{put-two}
 use Rattle.found_lines.proofs.LineLengths.{found-length}
 use Rattle.printout.specs.declared.searching.Progress.{Progress}
-use Rattle.printout.specs.Search.{problemFor, Stands, lastState, Finished}
+use Rattle.printout.specs.DeskSearch.{problemFor, Stands, lastState, Finished}
 use Rattle.printout.specs.Output.{foundLines, searchText, deskText}
 use Rattle.printout.proofs.PaperLaws.{Small, problem-is}
 

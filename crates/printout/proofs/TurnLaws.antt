@@ -1,6 +1,6 @@
 -- One turn of the search: it is finished, or it has come nearer to 3^k. Assumes nothing.
 use mathlib.Core.Path.{_≡_, refl, sym, ap, subst, _∙_}
-use mathlib.Core.Bool.{Bool, true, false, cond}
+use mathlib.Core.Bool.{Bool, true, false, cond, true≢false}
 use mathlib.Core.List.{List}
 use Prim.Native.Nat.{ℕ, _+_, _-_, _*_, _≤_, _<_}
 use native.Mathlib.Omega.{arith}
@@ -9,11 +9,11 @@ use lib.Dec.{eqb, ltb}
 use lib.ListN.{length, take}
 use Rattle.steps.specs.declared.Record.{Record}
 use Rattle.steps.specs.declared.State.the-variants.{Going, Full, Ended}
-use Rattle.steps.specs.Scenarios.{Problem, scenarios, minimals, stop, sumBelow}
+use Rattle.steps.specs.Explanations.{Problem, scenarios, minimals, stop, sumBelow}
 use Rattle.steps.specs.Continuing.{fresh, stateBy}
 use Rattle.steps.proofs.Stopping.{stop-le}
 use Rattle.printout.specs.declared.searching.Progress.{Progress}
-use Rattle.printout.specs.Search.{isGoing, Stands, GoneOn, lastState, Finished}
+use Rattle.printout.specs.DeskSearch.{isGoing, Stands, GoneOn, lastState, Finished}
 
 -- What is left to do: a turn more for a search that goes on.
 abbrev pub left : Problem → Progress → Bool → ℕ
@@ -45,7 +45,7 @@ module _ (P : Problem) (L : ℕ) (before after : Progress) (within : before .rea
   goes far =
       let top = stop-le P L in
       let at = gone .position in
-      record { finished = λ h. absurd (let z : _≡_ {A = ℕ} 0 1 = cc in omega arith); nearer = omega arith }
+      record { finished = λ h. absurd (true≢false cc); nearer = omega arith }
 
   pub turned : Turned P L before after (isGoing (after .state))
   unfolding stateBy isGoing

@@ -1,3 +1,6 @@
--- Document 01, "The desk program": how its search goes on, and what it prints.
-pub mod Search
+-- Document 01, "The desk program".
+
+-- How its search goes on.
+pub mod DeskSearch
+-- What it prints.
 pub mod Output

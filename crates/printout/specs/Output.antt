@@ -4,11 +4,11 @@ use Prim.Native.Nat.{ℕ}
 use lib.ListN.{length}
 use Rattle.papers.specs.Outcome.{Outcome, accepted, refused}
 use Rattle.papers.specs.Reading.{Papers}
-use Rattle.steps.specs.Scenarios.{scenarios, minimals, stop, sumBelow}
+use Rattle.steps.specs.Explanations.{scenarios, minimals, stop, sumBelow}
 use Rattle.trying.specs.Trying.{problemOf}
 use Rattle.found_lines.specs.FoundLine.{foundLine}
 use Rattle.report.specs.Lines.{headingLine, lastLine, refusedLine}
-use Rattle.printout.specs.Search.{lastState}
+use Rattle.printout.specs.DeskSearch.{lastState}
 
 -- "Each found entry, rising, has a line."
 unfoldable pub foundLines : List ℕ → List ℕ → List ℕ

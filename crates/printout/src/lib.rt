@@ -7,7 +7,7 @@ ghost use lib.ListN.{length, take};
 ghost use Rattle.papers.specs.Field.{numbers};
 ghost use Rattle.papers.specs.Reading.{readPapers};
 ghost use Rattle.decimals.specs.Text.{Put};
-ghost use Rattle.printout.specs.Search.{AcceptedAs};
+ghost use Rattle.printout.specs.DeskSearch.{AcceptedAs};
 ghost use Rattle.printout.specs.Output.{foundLines, deskText};
 use model::scenario_count;
 use papers::Contents;

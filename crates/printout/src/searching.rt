@@ -3,7 +3,7 @@ ghost use mathlib.Core.Path.{_≡_};
 ghost use Prim.Native.Nat.{_≤_};
 ghost use lib.ListN.{length};
 ghost use Rattle.papers.specs.Reading.{readPapers};
-ghost use Rattle.printout.specs.Search.{Accepted, problemFor, isGoing, Stands, GoneOn, Finished};
+ghost use Rattle.printout.specs.DeskSearch.{Accepted, problemFor, isGoing, Stands, GoneOn, Finished};
 use search::Continued;
 use steps::Record;
 use steps::State;

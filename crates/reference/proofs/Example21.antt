@@ -6,9 +6,9 @@ use Rattle.papers.specs.Outcome.{accepted}
 use Rattle.papers.specs.Reading.{readFile}
 use Rattle.papers.specs.Encoding.{encodeFile}
 use Rattle.dual.specs.Table.{dual}
-use Rattle.dual.specs.Encoding.{encodeDual}
+use Rattle.dual.specs.TableEncoding.{encodeDual}
 use Rattle.reference.specs.Programs.{example21, example21Dual}
-use Rattle.reference.specs.Computing.{computing}
+use Rattle.reference.specs.ComputingCalls.{computing}
 
 pub accepted21 : readFile (encodeFile example21) ≡ accepted example21
 unfolding computing

@@ -9,7 +9,7 @@ use Rattle.papers.specs.Reading.{readFile}
 use Rattle.papers.specs.Encoding.{encodeFile}
 use Rattle.model.specs.Model.{modelBytes, rounds, explains}
 use Rattle.reference.specs.Programs.{example21, example31, contradiction, contradictionAllowed, queryD}
-use Rattle.reference.specs.Computing.{computing}
+use Rattle.reference.specs.ComputingCalls.{computing}
 
 pub model21 : modelBytes example21 0 ≡ 0 ∷ 2 ∷ 2 ∷ 1 ∷ 1 ∷ 2 ∷ 2 ∷ []
 unfolding computing

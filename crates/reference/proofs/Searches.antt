@@ -10,7 +10,7 @@ use Rattle.steps.specs.declared.State.the-variants.{Ended}
 use Rattle.steps.specs.Continuing.{Report, fresh, continue}
 use Rattle.trying.specs.Trying.{problemOf}
 use Rattle.reference.specs.Programs.{example32, figureP0, figureP3, figureP4, figureQ8, figureQ11}
-use Rattle.reference.specs.Computing.{computing}
+use Rattle.reference.specs.ComputingCalls.{computing}
 
 -- Both papers as they are written are read as these.
 abbrev pub Read : Papers → Type 0

@@ -1,3 +1,6 @@
--- Document 01, "Reference calls": the programs, and what has to unfold to compute with them.
+-- Document 01, "Reference calls".
+
+-- Their programs and bytes.
 pub mod Programs
-pub mod Computing
+-- What has to unfold to compute them.
+pub mod ComputingCalls

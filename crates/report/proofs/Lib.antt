@@ -1,2 +1,2 @@
--- Document 01's own lines.
-pub mod Examples
+-- Document 01's own lines, computed.
+pub mod LineExamples

@@ -10,7 +10,7 @@ use Rattle.papers.specs.Program.{Rule}
 use Rattle.papers.specs.Field.{numbers}
 use Rattle.papers.specs.Places.{BodyOf}
 use Rattle.papers.proofs.Lists.{set-more}
-use Rattle.papers.proofs.Walking.{count-numbers}
+use Rattle.papers.proofs.NumbersWalked.{count-numbers}
 use Rattle.dual.specs.Bytes.{filled}
 use Rattle.copying.specs.Laid.{laid}
 use Rattle.rows.specs.Rows.{ruleRow, joined, Starts}

@@ -17,9 +17,9 @@ use Rattle.papers.proofs.NumberLaws.{numbers-encoded, length-encoded}
 use Rattle.papers.proofs.Encoded.{size-encoded}
 use Rattle.papers.proofs.Sizes.{length-field}
 use Rattle.papers.proofs.Lists.{drop-take}
-use Rattle.papers.proofs.FieldAnswers.{tag-there}
+use Rattle.papers.proofs.FieldTests.{tag-there}
 use Rattle.dual.specs.Table.{foldsOf, hasEntry, foldField, entry, entryIfAny, entriesFrom, dual}
-use Rattle.dual.specs.Encoding.{encodeFields, encodeDual}
+use Rattle.dual.specs.TableEncoding.{encodeFields, encodeDual}
 use Rattle.dual.specs.Bytes.{dualOf, filled}
 use Rattle.dual.proofs.ReadBack.{encodeFields-append}
 use Rattle.dual.proofs.AllEntries.{entry-is}

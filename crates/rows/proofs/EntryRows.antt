@@ -15,7 +15,7 @@ use Rattle.papers.proofs.Encoded.{size-encoded}
 use Rattle.papers.proofs.Sizes.{length-field}
 use Rattle.papers.proofs.Lists.{drop-after}
 use Rattle.dual.specs.Table.{foldsOf, hasEntry, foldField}
-use Rattle.dual.specs.Encoding.{encodeFields}
+use Rattle.dual.specs.TableEncoding.{encodeFields}
 use Rattle.dual.specs.Bytes.{dualOf}
 use Rattle.copying.specs.Laid.{laid}
 use Rattle.rows.specs.Rows.{clausesRow, clausesOf, entryRow}

@@ -13,9 +13,9 @@ use Rattle.papers.specs.Encoding.{encodeNumbers, encodeField}
 use Rattle.papers.proofs.NumberLaws.{length-encoded}
 use Rattle.papers.proofs.Sizes.{length-field}
 use Rattle.papers.proofs.Lists.{drop-after, getD-map-lt}
-use Rattle.papers.proofs.Walking.{count-numbers}
+use Rattle.papers.proofs.NumbersWalked.{count-numbers}
 use Rattle.dual.specs.Table.{foldsOf, foldField}
-use Rattle.dual.specs.Encoding.{encodeFields}
+use Rattle.dual.specs.TableEncoding.{encodeFields}
 use Rattle.dual.specs.Bytes.{dualOf}
 use Rattle.copying.specs.Laid.{laid}
 use Rattle.rows.specs.Rows.{clausesRow, clauseOf, clausesOf, joined}

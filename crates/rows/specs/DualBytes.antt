@@ -11,7 +11,7 @@ use Rattle.papers.specs.Valid.{Valid}
 use Rattle.papers.specs.Field.{numberIn, numbers, sizeOf, contentOf}
 use Rattle.papers.specs.Encoding.{encodeField}
 use Rattle.dual.specs.Table.{foldsOf, hasEntry, foldField, entriesFrom}
-use Rattle.dual.specs.Encoding.{encodeFields}
+use Rattle.dual.specs.TableEncoding.{encodeFields}
 use Rattle.dual.specs.Bytes.{dualOf}
 
 -- The literals that the 09 field at the start of these bytes lists, after its fold number.

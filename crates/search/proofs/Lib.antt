@@ -1,5 +1,8 @@
--- Calls over a file and a sheet, that what is told of an answer fixes it (`ToldLaws`), and the pause theorem of `continue_search`
--- (`SearchPause`).
-pub mod AnswerLaws
-pub mod ToldLaws
+-- Calls over a file and a sheet.
+
+-- A law for each answer of continuing.
+pub mod ContinueLaws
+-- What is told of a call fixes its answer.
+pub mod ContinuedTold
+-- The pause theorem of `continue_search`.
 pub mod SearchPause

@@ -8,7 +8,7 @@ use native.Mathlib.Decide.{ℕ-discrete}
 use native.Mathlib.Omega.{arith}
 use lib.Bits.{bitOr, bitXor}
 use lib.ListN.{getD}
-use Rattle.model.specs.Tests.{_or_}
+use Rattle.papers.specs.Tests.{_or_}
 use Rattle.model.specs.Sets.{has, sameFlag}
 use Rattle.lanes.specs.Lanes.{inLane, lane, Changed}
 use Rattle.model.proofs.SetLaws.{length-setOf, has-setOf, set-ext}

@@ -1,3 +1,6 @@
--- A round of 64 scenarios by its seeds and what backs a false literal, and rounds until none changes a lane.
+-- Rounds in 64 lanes.
+
+-- One round, from its parts.
 mod RoundLaws
+-- Rounds from J0 to the models.
 mod SettlingLaws

@@ -8,11 +8,11 @@ use native.Mathlib.Omega.{arith}
 use borrow.Author.Tests.{ltb-true}
 use lib.ListN.{getD}
 use Rattle.literals.specs.Numbering.{explicitConjugate, judged, listed}
-use Rattle.literals.proofs.Laws.{explicit-below}
+use Rattle.literals.proofs.NumberingLaws.{explicit-below}
 use Rattle.papers.specs.Program.{Program, allRules}
 use Rattle.papers.specs.Valid.{Valid}
 use Rattle.rows.specs.Rows.{ruleRows, Stand}
-use Rattle.model.specs.Tests.{_and_, _or_}
+use Rattle.papers.specs.Tests.{_and_, _or_}
 use Rattle.model.specs.Sets.{Set, has, setOf, full}
 use Rattle.model.specs.LeastSet.{Reduct, least}
 use Rattle.model.specs.Scenarios.{falseAbducible, trueAbducibles}
@@ -23,7 +23,7 @@ use Rattle.digits.specs.Digits.{AbducibleLanes}
 use Rattle.closing.specs.Closing.{rulesIn, ClosedTrue}
 use Rattle.closing.specs.FalseWords.{FalseWords}
 use Rattle.settling.specs.RoundLanes.{NextTrue, NextFalse}
-use Rattle.model.proofs.TestLaws.{true-and, false-and}
+use Rattle.papers.proofs.TestLaws.{true-and, false-and}
 use Rattle.model.proofs.SetLaws.{length-setOf, has-setOf, set-ext}
 use Rattle.model.proofs.ScenarioLaws.{has-true}
 use Rattle.model.proofs.WarmStart.{joined, true-warm}

@@ -13,7 +13,7 @@ use lib.ListN.{getD, replicate}
 use Rattle.literals.specs.Numbering.{judged}
 use Rattle.papers.specs.Program.{Program}
 use Rattle.papers.proofs.Lists.{getD-zeros}
-use Rattle.model.specs.Tests.{_or_}
+use Rattle.papers.specs.Tests.{_or_}
 use Rattle.model.specs.Sets.{Set, has, empty, complement}
 use Rattle.model.specs.Iteration.{iterate}
 use Rattle.model.specs.Model.{Interpretation, trueSet, falseSet, successor, start, interpretationAt, rounds}
@@ -21,7 +21,7 @@ use Rattle.lanes.specs.Lanes.{inLane, lane, NoneBeyond, Changed, Written, wordA
 use Rattle.digits.specs.Digits.{AbducibleLanes}
 use Rattle.lanes.specs.Words.{otherWord, Laned}
 use Rattle.settling.specs.RoundLanes.{NextTrue, NextFalse, MadeIf, MarkedLanes, SettledLanes, HeldLanes}
-use Rattle.model.proofs.TestLaws.{is-false}
+use Rattle.papers.proofs.TestLaws.{is-false}
 use Rattle.model.proofs.SetLaws.{length-empty, empty-out, set-ext}
 use Rattle.lanes.proofs.LaneLaws.{lane-or, lane-none, words-same, sized, has-lane, lane-same, kept-none, complement-lane}
 use Rattle.model.proofs.WarmStart.{true-grows}

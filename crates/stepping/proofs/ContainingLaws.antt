@@ -1,7 +1,7 @@
 -- The table of digits, the lanes of an entry and the lanes left by entries, as the loops over digits and entries meet them.
 -- Assumes nothing.
 use mathlib.Core.Path.{_≡_, refl, sym, ap, _∙_}
-use mathlib.Core.Bool.{Bool, true, false, not, _&&_, _||_}
+use mathlib.Core.Bool.{Bool, true, false, not}
 use mathlib.Core.List.{List}
 use Prim.Native.Nat.{ℕ, zero, suc, _+_, _-_, _*_, _/_, _%_, _^_, _<_, _≤_}
 use native.Mathlib.Decide.{ℕ-discrete}
@@ -13,27 +13,27 @@ use lib.Bits.{bitAnd}
 use lib.Dec.{eqb}
 use lib.ListN.{length, getD, take, drop, set, replicate, length-set, length-replicate, getD-replicate}
 use lib.Seq.{getD-set-same, getD-set-other}
-use Rattle.model.specs.Tests.{_and_}
-use Rattle.model.proofs.TestLaws.{and-true, and-assoc, false-and}
+use Rattle.papers.specs.Tests.{_and_, _or_}
+use Rattle.papers.proofs.TestLaws.{and-true, and-assoc, false-and}
 use Rattle.lanes.specs.Lanes.{inLane}
 use Rattle.lanes.proofs.LaneLaws.{lane-and, lane-not, lane-full, lane-none}
 use Rattle.digits.specs.Digits.{DigitLanes}
-use Rattle.steps.specs.Scenarios.{partDigit, partOf}
+use Rattle.steps.specs.Explanations.{partDigit, partOf}
 use Rattle.steps.specs.Continuing.{containsOne}
 use Rattle.stepping.specs.Containing.{DigitTable, EntryLanes, LanesLeft, NewToFirst}
 use Rattle.steps.proofs.Entries.{entries-next, entries-end}
-use Rattle.stepping.proofs.Walking.{part-done}
+use Rattle.stepping.proofs.PartLoops.{part-done}
 
 -- ---- the table
 
 -- Digit 0 is contained in any.
 zero-digit : (e : ℕ) → partDigit 0 e ≡ true
-unfolding partDigit
+unfolding partDigit _or_
 zero-digit e = refl
 
 -- Another one in itself alone.
 other-digit : (d e : ℕ) → (d ≡ 0 → ⊥) → partDigit d e ≡ eqb e d
-unfolding partDigit
+unfolding partDigit _or_
 other-digit d e z = elim (ℕ-discrete e d) [
   | yes q ↦ rw (ne-eqb d 0 z, eq-eqb d e (sym q), eq-eqb e d q)
   | no q ↦ rw (ne-eqb d 0 z, ne-eqb d e (λ r. q (sym r)), ne-eqb e d q)
@@ -108,22 +108,17 @@ module _ (i base : ℕ) (table : List ℕ) (few : i < 16) (so-far : Tabled i bas
 
 -- ---- the lanes of an entry
 
-pub and-is : (a b : Bool) → (a && b) ≡ (a and b)
-unfolding _and_
-and-is true b = refl
-and-is false b = refl
-
 -- The lowest digit, and the others.
 part-first : (k a b : ℕ) → 0 < k → partOf k a b ≡ (partDigit (a % 3) (b % 3) and partOf (k - 1) (a / 3) (b / 3))
 unfolding partOf
 part-first zero a b h = absurd (omega arith)
 part-first (suc k) a b h =
     let e : suc k - 1 ≡ k = omega arith in
-    rw e (and-is (partDigit (a % 3) (b % 3)) (partOf k (a / 3) (b / 3)))
+    rw e
 
 -- No assumptions are part of any.
 part-zero : (k b : ℕ) → partOf k 0 b ≡ true
-unfolding partOf partDigit
+unfolding partOf partDigit _and_ _or_
 part-zero zero b = refl
 part-zero (suc k) b = part-zero k (b / 3)
 
@@ -187,8 +182,8 @@ pub record LeftTo (k : ℕ) (table : List ℕ) (entries : List ℕ) (lanes : ℕ
       → (inLane l lanes and not (containsOne k entries (base + l))) ≡ (inLane l left and not (containsOne k more (base + l)))
 
 -- What does not contain the first entry and none of the others.
-left-by : (a p c : Bool) → (a and not (p || c)) ≡ ((a and not (a and p)) and not c)
-unfolding _and_
+left-by : (a p c : Bool) → (a and not (p or c)) ≡ ((a and not (a and p)) and not c)
+unfolding _and_ _or_
 left-by true true c = refl
 left-by true false c = refl
 left-by false p c = refl

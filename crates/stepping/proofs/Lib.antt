@@ -1,7 +1,10 @@
--- The parts of scenarios and the found entries, as the loops over digits and entries meet them,
-mod Walking
--- the same for 64 scenarios at once,
+-- The steps of a call as the loops meet them.
+
+-- The digits of a part, and the entries of a list.
+mod PartLoops
+-- The same for 64 scenarios at once.
 mod ContainingLaws
--- what a step does, and the steps of up to 64 scenarios.
+-- What a step is decided to do.
 mod Decisions
-pub mod Trying
+-- What it leaves, and the steps of up to 64 scenarios.
+pub mod BatchSteps

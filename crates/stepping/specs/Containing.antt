@@ -4,9 +4,9 @@ use mathlib.Core.Bool.{not}
 use mathlib.Core.List.{List}
 use Prim.Native.Nat.{ℕ, _+_, _*_, _/_, _%_, _^_, _<_, _≤_}
 use lib.ListN.{getD, take}
-use Rattle.model.specs.Tests.{_and_}
+use Rattle.papers.specs.Tests.{_and_}
 use Rattle.lanes.specs.Lanes.{inLane}
-use Rattle.steps.specs.Scenarios.{partDigit, partOf}
+use Rattle.steps.specs.Explanations.{partDigit, partOf}
 use Rattle.steps.specs.Continuing.{containsOne}
 use Rattle.stepping.specs.declared.contained.NewLanes.{NewLanes}
 

@@ -1,3 +1,6 @@
--- The steps of a call as code makes them, and how it tells which scenarios contain found entries.
+-- The steps of a call as code makes them.
+
+-- What a step does, and the steps of up to 64 scenarios.
 pub mod Stepping
+-- Which of 64 scenarios contain found entries.
 pub mod Containing

@@ -9,7 +9,7 @@ use Rattle.lanes.specs.Lanes.{inLane}
 use Rattle.stepping.specs.declared.Move.{Move as Told}
 use Rattle.stepping.specs.declared.Move.the-variants.{Stands, Tries, Writes}
 use Rattle.stepping.specs.declared.Progress.{Progress}
-use Rattle.steps.specs.Scenarios.{Problem}
+use Rattle.steps.specs.Explanations.{Problem}
 use Rattle.steps.specs.Continuing.{newTo, Move, stands, tries, writes, move, Work, work, step, steps}
 
 -- The move that is told.

@@ -1,14 +1,14 @@
 // The single steps of a search as code makes them: what a step does, and the steps of up to 64 scenarios.
 mod contained;
-mod parts;
+mod digitwise;
 
 ghost use mathlib.Core.Path.{_≡_};
 ghost use Prim.Native.Nat.{_≤_, _<_, _^_};
 ghost use lib.ListN.{length};
 ghost use Rattle.stepping.specs.Stepping.{Decided, LaneReady, LaneTried, LanesReady, LanesTried};
 use contained::new_lanes;
+use digitwise::contains_one;
 use lanes::words::in_lane;
-use parts::contains_one;
 
 // What a step does.
 pub enum Move {

@@ -5,22 +5,23 @@ use mathlib.Core.Bool.{Bool, true, false}
 use mathlib.Core.List.{List, [], _∷_, _++_}
 use Prim.Native.Nat.{ℕ, _+_}
 use native.Mathlib.Nat.{zero-add}
-use Rattle.steps.specs.Scenarios.{Problem}
+use Rattle.papers.specs.Tests.{_or_}
+use Rattle.steps.specs.Explanations.{Problem}
 use Rattle.steps.specs.Continuing.{Record, Report, continue}
 use Rattle.steps.specs.Spoilt.{spoilt}
 use Rattle.steps.specs.Calls.{Call, Answer, refusal, report, answer, recordAfter, listAfter, Called, first, calls, allowances, unrefused, reports}
 
 module _ (P : Problem) (c : Call) (r : Record) (list : List ℕ) where
   pub answer-refused : c .refused ≡ true → answer P c r list ≡ refusal
-  unfolding answer
+  unfolding answer _or_
   answer-refused e = rw (e, answer)
 
   pub answer-spoilt : c .refused ≡ false → spoilt P r list ≡ true → answer P c r list ≡ refusal
-  unfolding answer
+  unfolding answer _or_
   answer-spoilt e s = rw (e, s, answer)
 
   pub answer-made : c .refused ≡ false → spoilt P r list ≡ false → answer P c r list ≡ report (continue P (c .allowance) r list)
-  unfolding answer
+  unfolding answer _or_
   answer-made e s = rw (e, s, answer)
 
   -- A refused call, and then the others.

@@ -10,12 +10,12 @@ use native.Mathlib.Omega.{arith}
 use native.Mathlib.Nat.{add-zero, add-assoc}
 use native.Mathlib.Numerals.{add-one}
 use native.Mathlib.Decide.{ℕ-discrete, decLt}
-use lib.Dec.{T}
+use lib.Dec.{T, T-not}
 use lib.ListN.{length, take, drop, set, length-append, length-drop}
 use lib.Seq.{take-append-seam, drop-append-seam, set-append-seam, drop-cons}
-use Rattle.steps.specs.Scenarios.{Problem, scenarios, minimal, minimals, stop, sumBelow, roundsFrom}
+use Rattle.papers.proofs.TestLaws.{decided, is-true, is-false}
+use Rattle.steps.specs.Explanations.{Problem, scenarios, minimal, minimals, stop, sumBelow, roundsFrom}
 use Rattle.steps.specs.Continuing.{Record, fresh, newTo, Work, work, step, steps, begun, reportOf, continue, stopFrom}
-use Rattle.steps.proofs.Tests.{either, is-true, is-false}
 use Rattle.steps.proofs.Minimals.{minimals-yes, minimals-no, new-minimal}
 use Rattle.steps.proofs.Stopping.{stop-le, stop-here, stop-count, stop-full}
 use Rattle.steps.proofs.Steps.{move-tries, move-writes, move-full, step-tries, step-writes, step-stands, step-end}
@@ -89,14 +89,14 @@ module _ (P : Problem) (l : List ℕ) where
       let b = stop-le P (length l) in
       let len = listAt-length p (omega arith) in
       let inside : (p ≡ scenarios P → ⊥) = λ e. omega arith in
-      elim (either (minimal P p)) [
+      elim (decided (minimal P p)) [
         | inl y ↦ (
             let room : foundBelow P p < length l = has-room y in
             let new = newAt p (omega arith) ∙ is-true (minimal P p) y in
             step-writes P p (foundBelow P p) (listAt P l p) t r (move-writes P p (foundBelow P p) (listAt P l p) inside new (omega arith))
             ∙ (λ i. work (add-one p i) (found-yes p y i) (listAt-yes p y room i) (t + 1) (r + P .rounds p)))
         | inr o ↦ (
-            let new = newAt p (omega arith) ∙ is-false (minimal P p) o in
+            let new = newAt p (omega arith) ∙ is-false (minimal P p) (T-not (minimal P p) o) in
             step-tries P p (foundBelow P p) (listAt P l p) t r (move-tries P p (foundBelow P p) (listAt P l p) inside new)
             ∙ (λ i. work (add-one p i) (found-no p o i) (listAt-no p o i) (t + 1) (r + P .rounds p)))
       ]

@@ -2,7 +2,7 @@
 -- an explanation containing no listed entry's assumptions and finds the list full, else 3^k; and no other number is.
 -- Assumes nothing.
 use mathlib.Core.Path.{_≡_, refl, sym, ap, _∙_}
-use mathlib.Core.Bool.{true, false, _&&_}
+use mathlib.Core.Bool.{true, false, true≢false}
 use mathlib.Core.List.{List, [], _∷_, _++_, append-nil}
 use mathlib.Core.Logic.{⊎-elim}
 use Prim.Native.Nat.{ℕ, zero, suc, _+_, _-_, _<_, _≤_, min}
@@ -13,7 +13,8 @@ use borrow.Author.Tests.{le-leb, lt-leb}
 use lib.Dec.{leb}
 use lib.ListN.{length, take, set, length-set, length-take}
 use lib.Seq.{take-suc-set}
-use Rattle.steps.specs.Scenarios.{Problem, scenarios}
+use Rattle.papers.specs.Tests.{_and_}
+use Rattle.steps.specs.Explanations.{Problem, scenarios}
 use Rattle.steps.specs.Continuing.{
   Record,
   newTo,
@@ -113,15 +114,15 @@ module _ (P : Problem) (r : Record) (l : List ℕ) where
           })
 
   -- The test of the d-th scenario.
-  finds-at : (d : ℕ) → findsFull P r l (r .position + d) ≡ newTo P (listed d) (r .position + d) && leb (length l) (length (listed d))
+  finds-at : (d : ℕ) → findsFull P r l (r .position + d) ≡ newTo P (listed d) (r .position + d) and leb (length l) (length (listed d))
   unfolding findsFull
   finds-at d =
       let e : r .position + d - r .position ≡ d = omega arith in
-      ap (λ (n : ℕ). newTo P (listed n) (r .position + d) && leb (length l) (length (listed n))) e
+      ap (λ (n : ℕ). newTo P (listed n) (r .position + d) and leb (length l) (length (listed n))) e
 
   -- A search that goes on finds no list full; one that stands still short of 3^k does.
   goes-on : (d : ℕ) (s : Work) → Along d s → Onward s (step P s) → findsFull P r l (r .position + d) ≡ false
-  unfolding step
+  unfolding step _and_
   goes-on d s a o = go (move P (s .position) (s .found) (s .list)) refl
     where
       go : (m : Move) → move P (s .position) (s .found) (s .list) ≡ m → findsFull P r l (r .position + d) ≡ false
@@ -136,6 +137,7 @@ module _ (P : Problem) (r : Record) (l : List ℕ) where
 
   stands-still : (d : ℕ) (s : Work) → Along d s → s .position < scenarios P → move P (s .position) (s .found) (s .list) ≡ stands
       → findsFull P r l (r .position + d) ≡ true
+  unfolding _and_
   stands-still d s a h e =
       let m = move-stands P (s .position) (s .found) (s .list) (λ q. omega arith) e in
       finds-at d ∙ rw (new-along d s a ∙ m .0, full-along d s a (m .1))
@@ -209,8 +211,7 @@ first-one P r l m n a b = elim (decLt m n) [
     earlier m n a b h =
         let most = b .most in
         let e = sym (a .there (omega arith)) ∙ b .before m (a .least) h in
-        let z : _≡_ {A = ℕ} 0 1 = cc in
-        omega arith
+        true≢false cc
 
 pub stopFrom-only : (P : Problem) (r : Record) (l : List ℕ) (m : ℕ) → r .position ≤ scenarios P → FirstFull P r l m → m ≡ stopFrom P r l
 stopFrom-only P r l m h a = first-one P r l m (stopFrom P r l) a (stopFrom-first P r l h)

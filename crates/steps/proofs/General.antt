@@ -9,7 +9,7 @@ use Prim.Native.Nat.{ℕ, _+_, _-_, _<_, _≤_, min}
 use native.Mathlib.Omega.{arith}
 use native.Mathlib.Decide.{decLt}
 use lib.ListN.{length, take}
-use Rattle.steps.specs.Scenarios.{Problem, scenarios}
+use Rattle.steps.specs.Explanations.{Problem, scenarios}
 use Rattle.steps.specs.Continuing.{Record, newTo, Work, step, steps, begun, continue, stopFrom}
 use Rattle.steps.proofs.Steps.{move-stands, step-end, Onward, step-either}
 use Rattle.steps.proofs.Runs.{Gone, steps-add, steps-still, steps-gone, steps-either}

@@ -2,6 +2,7 @@
 -- record passes.
 -- Assumes nothing.
 use mathlib.Core.Path.{_≡_, refl, sym, ap, _∙_}
+use mathlib.Core.Bool.{true≢false}
 use mathlib.Core.List.{List, [], _∷_, _++_}
 use Prim.Native.Nat.{ℕ, zero, suc, _+_, _-_, _<_, _≤_}
 use native.Mathlib.Omega.{arith}
@@ -9,10 +10,10 @@ use native.Mathlib.Numerals.{add-one}
 use native.Mathlib.Decide.{ℕ-discrete}
 use lib.ListN.{length, take, drop, set, length-set}
 use lib.Seq.{take-take, drop-drop, take-set-le, drop-set-lt, take-suc-set}
-use Rattle.steps.specs.Scenarios.{Problem, scenarios}
+use Rattle.papers.proofs.TestLaws.{is-true, passes}
+use Rattle.steps.specs.Explanations.{Problem, scenarios}
 use Rattle.steps.specs.Continuing.{Record, Move, stands, tries, writes, move, Work, step, steps, recordOf, begun, continue}
 use Rattle.steps.specs.Spoilt.{rising, allBelow}
-use Rattle.steps.proofs.Tests.{is-true, passes}
 use Rattle.steps.proofs.Steps.{move-end, move-writes-tells}
 use Rattle.steps.proofs.Sound.{Sound, rising-last, below-wider, below-last}
 
@@ -94,10 +95,10 @@ module _ (P : Problem) where
 
       go : (m : Move) → move P p (s .found) (s .list) ≡ m → Sound P (recordOf (step P s)) (step P s .list)
       go stands e = rw (e, step) h
-      go tries e = rw (e, step) (sound-tried p (s .found) (s .list) (inside tries (λ q. let z : _≡_ {A = ℕ} 0 1 = cc in omega arith) e) h)
+      go tries e = rw (e, step) (sound-tried p (s .found) (s .list) (inside tries (λ q. true≢false cc) e) h)
       go writes e =
           rw (e, step)
-          (sound-written p (s .found) (s .list) (inside writes (λ q. let z : _≡_ {A = ℕ} 0 1 = cc in omega arith) e) (move-writes-tells P p (s .found) (s .list) e) h)
+          (sound-written p (s .found) (s .list) (inside writes (λ q. true≢false cc) e) (move-writes-tells P p (s .found) (s .list) e) h)
 
   -- ---- a call
 

@@ -2,15 +2,15 @@
 -- Assumes nothing.
 use mathlib.Core.Path.{_≡_}
 use mathlib.Core.Bool.{Bool, not}
-use mathlib.Core.Logic.{_↔_, inl, inr}
+use mathlib.Core.Logic.{_↔_, inl, inr, ⊎-elim}
 use Prim.Native.Nat.{ℕ, zero, suc, _<_, _≤_}
 use native.Mathlib.Omega.{arith}
 use native.Mathlib.Decide.{ℕ-discrete}
 use mathlib.Core.Path.{subst}
 use lib.Dec.{T, T-not}
-use Rattle.steps.specs.Scenarios.{Problem, scenarios, partOf, someBelow, lesser, minimal}
-use Rattle.steps.proofs.Tests.{both, left, right, or-left, or-right, or-elim, either, differs, not-equal}
-use Rattle.steps.proofs.PartLaws.{part-refl, part-trans, part-lt, PartOf, part-tells, part-holds}
+use Rattle.papers.proofs.TestLaws.{both, left, right, either-left, either-right, either, decided, differs, not-equal}
+use Rattle.steps.specs.Explanations.{Problem, scenarios, partOf, someBelow, lesser, minimal}
+use Rattle.steps.proofs.PartOfLaws.{part-refl, part-trans, part-lt, PartOf, part-tells, part-holds}
 
 -- ---- some number below n
 
@@ -18,15 +18,15 @@ pub some-here : (n : ℕ) (test : ℕ → Bool) (t : ℕ) → t < n → T (test 
 unfolding someBelow
 some-here zero test t l h = absurd (omega arith)
 some-here (suc n) test t l h = elim (ℕ-discrete t n) [
-  | yes e ↦ or-left (test n) (someBelow n test) (subst (λ (x : ℕ). T (test x)) e h)
-  | no e ↦ or-right (test n) (someBelow n test) (some-here n test t (omega arith) h)
+  | yes e ↦ either-left (test n) (someBelow n test) (subst (λ (x : ℕ). T (test x)) e h)
+  | no e ↦ either-right (test n) (someBelow n test) (some-here n test t (omega arith) h)
 ]
 
 pub some-where : (n : ℕ) (test : ℕ → Bool) → T (someBelow n test) → (t : ℕ) × (t < n) × T (test t)
 unfolding someBelow
 some-where zero test h = absurd h
 some-where (suc n) test h =
-    or-elim (test n) (someBelow n test) (λ g. (n, omega arith, g)) (λ g. let r = some-where n test g in (r .0, omega arith, r .2)) h
+    ⊎-elim (λ g. (n, omega arith, g)) (λ g. let r = some-where n test g in (r .0, omega arith, r .2)) (either (test n) (someBelow n test) h)
 
 module _ (P : Problem) where
   -- ---- another explanation with only part of the assumptions
@@ -52,7 +52,7 @@ module _ (P : Problem) where
 
   pub not-minimal : (s : ℕ) → T (P .explains s) → T (not (minimal P s)) → (t : ℕ) × (t < scenarios P) × T (lesser P s t)
   unfolding minimal
-  not-minimal s h n = elim (either (someBelow (scenarios P) (lesser P s))) [
+  not-minimal s h n = elim (decided (someBelow (scenarios P) (lesser P s))) [
     | inl o ↦ some-where (scenarios P) (lesser P s) o
     | inr o ↦ absurd (T-not (minimal P s) n (both (P .explains s) _ h o))
   ]
@@ -74,7 +74,7 @@ module _ (P : Problem) where
       )
 
       from : Minimal s → T (minimal P s)
-      from m = elim (either (minimal P s)) [
+      from m = elim (decided (minimal P s)) [
         | inl y ↦ y
         | inr o ↦ (
             let w = not-minimal s (m .0) o in
@@ -92,7 +92,7 @@ module _ (P : Problem) where
 
   contained : (n s : ℕ) → s < n → s < scenarios P → T (P .explains s) → Contained s
   contained zero s l m h = absurd (omega arith)
-  contained (suc n) s l m h = elim (either (minimal P s)) [
+  contained (suc n) s l m h = elim (decided (minimal P s)) [
     | inl y ↦ record { it = s; le = omega arith; is-minimal = y; is-part = part-refl (P .abducibles) s }
     | inr o ↦ (
         let w = not-minimal s h o in

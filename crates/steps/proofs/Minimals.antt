@@ -2,7 +2,7 @@
 -- minimality.
 -- Assumes nothing.
 use mathlib.Core.Path.{_≡_, refl, sym, ap, _∙_}
-use mathlib.Core.Bool.{Bool, true, false, not, cond, _&&_, _||_}
+use mathlib.Core.Bool.{Bool, true, false, not, cond}
 use mathlib.Core.List.{List, [], _∷_, _++_, append-nil, append-assoc}
 use mathlib.Core.Logic.{inl, inr}
 use Prim.Native.Nat.{ℕ, zero, suc, _<_, _≤_}
@@ -11,20 +11,17 @@ use native.Mathlib.Decide.{le-ind, decLt}
 use lib.Dec.{T, T-not, not-T}
 use lib.ListN.{length, getD, length-append, List·getD-append}
 use lib.Seq.{getD-at}
-use Rattle.steps.specs.Scenarios.{Problem, scenarios, partOf, someBelow, minimal, minimals}
+use Rattle.papers.specs.Tests.{_and_, _or_}
+use Rattle.papers.proofs.TestLaws.{both, left, right, decided, same-tests, or-assoc, is-true, is-false}
+use Rattle.steps.specs.Explanations.{Problem, scenarios, partOf, someBelow, minimal, minimals}
 use Rattle.steps.specs.Continuing.{containsOne, newTo}
-use Rattle.steps.proofs.Tests.{both, left, right, either, same-tests, is-true, is-false}
-use Rattle.steps.proofs.PartLaws.{part-trans, part-lt}
+use Rattle.steps.proofs.PartOfLaws.{part-trans, part-lt}
 use Rattle.steps.proofs.Minimality.{some-here, some-where, lesser-holds, lesser-tells, minimal-explains, minimal-least, not-minimal, contains-minimal}
 
-pub contains-append : (k : ℕ) (xs ys : List ℕ) (p : ℕ) → containsOne k (xs ++ ys) p ≡ containsOne k xs p || containsOne k ys p
-unfolding containsOne
+pub contains-append : (k : ℕ) (xs ys : List ℕ) (p : ℕ) → containsOne k (xs ++ ys) p ≡ containsOne k xs p or containsOne k ys p
+unfolding containsOne _or_
 contains-append k [] ys p = refl
-contains-append k (x ∷ xs) ys p = rw (contains-append k xs ys p) (or-assoc (partOf k x p) _ _)
-  where
-    or-assoc : (a b c : Bool) → a || (b || c) ≡ (a || b) || c
-    or-assoc true b c = refl
-    or-assoc false b c = refl
+contains-append k (x ∷ xs) ys p = rw (contains-append k xs ys p) (sym (or-assoc (partOf k x p) _ _))
 
 module _ (P : Problem) where
   minimals-suc : (n : ℕ) → minimals P (suc n) ≡ minimals P n ++ cond (minimal P n) (n ∷ []) []
@@ -39,27 +36,27 @@ module _ (P : Problem) where
   minimals-yes n h = minimals-suc n ∙ rw (is-true (minimal P n) h)
 
   pub minimals-no : (n : ℕ) → T (not (minimal P n)) → minimals P (suc n) ≡ minimals P n
-  minimals-no n h = minimals-suc n ∙ rw (is-false (minimal P n) h) (append-nil (minimals P n))
+  minimals-no n h = minimals-suc n ∙ rw (is-false (minimal P n) (T-not (minimal P n) h)) (append-nil (minimals P n))
 
   -- ---- the entries
 
   minimalPart : ℕ → ℕ → Bool
-  minimalPart p t = minimal P t && partOf (P .abducibles) t p
+  minimalPart p t = minimal P t and partOf (P .abducibles) t p
 
   contains-minimals : (p n : ℕ) → containsOne (P .abducibles) (minimals P n) p ≡ someBelow n (minimalPart p)
-  unfolding containsOne someBelow minimals minimalPart
+  unfolding containsOne someBelow minimals minimalPart _and_ _or_
   contains-minimals p zero = refl
   contains-minimals p (suc n) =
       rw (contains-append (P .abducibles) (minimals P n) (cond (minimal P n) (n ∷ []) []) p, contains-minimals p n)
       (last (minimal P n) (someBelow n (minimalPart p)))
     where
-      swap : (b c : Bool) → c || (b || false) ≡ b || c
+      swap : (b c : Bool) → c or (b or false) ≡ b or c
       swap true true = refl
       swap true false = refl
       swap false true = refl
       swap false false = refl
 
-      last : (m c : Bool) → c || containsOne (P .abducibles) (cond m (n ∷ []) []) p ≡ (m && partOf (P .abducibles) n p) || c
+      last : (m c : Bool) → c or containsOne (P .abducibles) (cond m (n ∷ []) []) p ≡ (m and partOf (P .abducibles) n p) or c
       last true c = swap (partOf (P .abducibles) n p) c
       last false true = refl
       last false false = refl
@@ -73,7 +70,7 @@ module _ (P : Problem) where
       listed = containsOne (P .abducibles) (minimals P p) p
 
       to : T (newTo P (minimals P p) p) → T (minimal P p)
-      to h = elim (either (minimal P p)) [
+      to h = elim (decided (minimal P p)) [
         | inl y ↦ y
         | inr o ↦ (
             let w = not-minimal P p (left (P .explains p) _ h) o in
@@ -102,7 +99,7 @@ module _ (P : Problem) where
 
   pub nth : (n L d : ℕ) → L < length (minimals P n) → Nth n L (getD (minimals P n) L d)
   nth zero L d h = let e = ap length minimals-zero in absurd (omega arith)
-  nth (suc n) L d h = elim (either (minimal P n)) [
+  nth (suc n) L d h = elim (decided (minimal P n)) [
     | inl y ↦ (
         let e = minimals-yes n y in
         let len = ap length e ∙ length-append (minimals P n) (n ∷ []) in

@@ -1,7 +1,7 @@
 -- The pause theorem: "a single claim about the list of continue calls, of any length, the empty one included".
 -- Assumes nothing.
 use mathlib.Core.Path.{_≡_, refl, sym, ap, ap₂, _∙_, subst}
-use mathlib.Core.Bool.{Bool, true, false, cond}
+use mathlib.Core.Bool.{Bool, true, false, cond, true≢false}
 use mathlib.Core.List.{List, [], _∷_, map}
 use Prim.Native.Nat.{ℕ, _+_, _-_, _<_, _≤_, min}
 use native.Mathlib.Omega.{arith}
@@ -9,7 +9,7 @@ use borrow.Author.Tests.{eqb-true, ltb-true}
 use lib.Dec.{eqb, ltb}
 use lib.ListN.{length}
 use Rattle.papers.specs.Valid.{All, All.none as nothing, All.each as each}
-use Rattle.steps.specs.Scenarios.{Problem, scenarios, stop, sumBelow, roundsFrom}
+use Rattle.steps.specs.Explanations.{Problem, scenarios, stop, sumBelow, roundsFrom}
 use Rattle.steps.specs.declared.State.the-variants.{Ended, Full, Going}
 use Rattle.steps.specs.Continuing.{Record, fresh, stateBy, stateOf, Work, Report, reportOf}
 use Rattle.steps.specs.Calls.{Call, refusal, report, Called, first, calls, triedBy, roundsBy, allowances, unrefused, reports}
@@ -29,17 +29,17 @@ state-ended P w s e = go (eqb (s .position) (scenarios P)) (ltb (s .tried) w) re
   where
     go : (a b : Bool) → eqb (s .position) (scenarios P) ≡ a → cond a Ended (cond b Full Going) ≡ Ended → s .position ≡ scenarios P
     go true b x h = eqb-true (s .position) (scenarios P) x
-    go false true x h = absurd (let z : _≡_ {A = ℕ} 0 1 = cc in omega arith)
-    go false false x h = absurd (let z : _≡_ {A = ℕ} 0 1 = cc in omega arith)
+    go false true x h = absurd (true≢false cc)
+    go false false x h = absurd (true≢false cc)
 
 state-full : (P : Problem) (w : ℕ) (s : Work) → stateOf P w s ≡ Full → s .tried < w
 unfolding stateBy
 state-full P w s e = go (eqb (s .position) (scenarios P)) (ltb (s .tried) w) refl e
   where
     go : (a b : Bool) → ltb (s .tried) w ≡ b → cond a Ended (cond b Full Going) ≡ Full → s .tried < w
-    go true b x h = absurd (let z : _≡_ {A = ℕ} 0 1 = cc in omega arith)
+    go true b x h = absurd (true≢false cc)
     go false true x h = ltb-true (s .tried) w x
-    go false false x h = absurd (let z : _≡_ {A = ℕ} 0 1 = cc in omega arith)
+    go false false x h = absurd (true≢false cc)
 
 module _ (P : Problem) (l : List ℕ) where
   -- The report of a call from position p that tries m scenarios.

@@ -6,7 +6,7 @@ use mathlib.Core.List.{List}
 use Prim.Native.Nat.{ℕ, _<_, _≤_, min}
 use native.Mathlib.Omega.{arith}
 use lib.ListN.{length, take}
-use Rattle.steps.specs.Scenarios.{Problem, scenarios, minimal, stop}
+use Rattle.steps.specs.Explanations.{Problem, scenarios, minimal, stop}
 use Rattle.steps.specs.Continuing.{Record, fresh, newTo, stopFrom}
 use Rattle.steps.specs.Calls.{Call, Called, calls, allowances}
 use Rattle.steps.proofs.Canonical.{recordAt, listAt, newAt, stopFrom-at}

@@ -7,7 +7,7 @@ use Prim.Native.Nat.{ℕ, zero, suc, _+_, _-_, _<_, _≤_}
 use native.Mathlib.Omega.{arith}
 use native.Mathlib.Nat.{zero-add, add-zero, suc-add, add-assoc}
 use lib.ListN.{set}
-use Rattle.steps.specs.Scenarios.{Problem}
+use Rattle.steps.specs.Explanations.{Problem}
 use Rattle.steps.specs.Continuing.{Record, Move, stands, tries, writes, move, Work, work, step, steps, Report, recordOf, begun, continue}
 use Rattle.steps.proofs.Steps.{Onward, step-either}
 

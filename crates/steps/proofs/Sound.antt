@@ -1,7 +1,7 @@
 -- Test 14: what it tells where it is passed, and that every record that a search reaches passes it.
 -- Assumes nothing.
 use mathlib.Core.Path.{_≡_, refl}
-use mathlib.Core.Bool.{Bool, true, false, not, _||_}
+use mathlib.Core.Bool.{Bool, true, false, not}
 use mathlib.Core.List.{List, [], _∷_, _++_}
 use mathlib.Core.Logic.{inl, inr}
 use Prim.Native.Nat.{ℕ, zero, suc, _+_, _-_, _≤_}
@@ -10,10 +10,11 @@ use borrow.Author.Tests.{ltb-false, le-ltb, not-false}
 use lib.Dec.{T, leb, ltb, leb→le, le→leb, ltb→lt, lt→ltb}
 use lib.ListN.{length, take}
 use lib.Seq.{length-take-le}
-use Rattle.steps.specs.Scenarios.{Problem, scenarios, minimal, minimals, stop}
+use Rattle.papers.specs.Tests.{_or_}
+use Rattle.papers.proofs.TestLaws.{both, left, right, decided, neither, is-true, passes}
+use Rattle.steps.specs.Explanations.{Problem, scenarios, minimal, minimals, stop}
 use Rattle.steps.specs.Continuing.{Record}
 use Rattle.steps.specs.Spoilt.{rising, allBelow, spoiltBy, spoilt}
-use Rattle.steps.proofs.Tests.{both, left, right, either, is-true, passes}
 use Rattle.steps.proofs.Minimals.{minimals-zero, minimals-yes, minimals-no}
 use Rattle.steps.proofs.Stopping.{stop-le, stop-count}
 use Rattle.steps.proofs.Canonical.{recordAt, listAt, listAt-found, listAt-length}
@@ -26,10 +27,6 @@ pub record Sound (P : Problem) (r : Record) (list : List ℕ) : Type 0 where
   pub held : r .found ≤ length list
   pub rises : rising 0 (take (r .found) list) ≡ true
   pub below : allBelow (r .position) (take (r .found) list) ≡ true
-
-neither : (a b : Bool) → a || b ≡ false → (a ≡ false) × (b ≡ false)
-neither true b e = absurd (let z : _≡_ {A = ℕ} 0 1 = cc in omega arith)
-neither false b e = (refl, e)
 
 pub unspoilt-tells : (P : Problem) (r : Record) (list : List ℕ) → spoilt P r list ≡ false → Sound P r list
 unfolding spoiltBy
@@ -45,7 +42,7 @@ unspoilt-tells P r list e =
     }
 
 pub sound-unspoilt : (P : Problem) (r : Record) (list : List ℕ) → Sound P r list → spoilt P r list ≡ false
-unfolding spoiltBy
+unfolding spoiltBy _or_
 sound-unspoilt P r list s =
     rw (le-ltb (scenarios P) (r .position) (s .within), le-ltb (length list) (r .found) (s .held), s .rises, s .below)
 
@@ -102,7 +99,7 @@ module _ (P : Problem) where
   pub minimals-below : (p : ℕ) → T (allBelow p (minimals P p))
   unfolding allBelow
   minimals-below zero = rw (minimals-zero P) tt
-  minimals-below (suc p) = elim (either (minimal P p)) [
+  minimals-below (suc p) = elim (decided (minimal P p)) [
     | inl y ↦ rw (minimals-yes P p y) (below-last (minimals P p) p (minimals-below p))
     | inr o ↦ rw (minimals-no P p o) (below-wider (minimals P p) p (minimals-below p))
   ]
@@ -110,7 +107,7 @@ module _ (P : Problem) where
   pub minimals-rising : (p : ℕ) → T (rising 0 (minimals P p))
   unfolding rising
   minimals-rising zero = rw (minimals-zero P) tt
-  minimals-rising (suc p) = elim (either (minimal P p)) [
+  minimals-rising (suc p) = elim (decided (minimal P p)) [
     | inl y ↦ rw (minimals-yes P p y) (rising-last 0 (minimals P p) p (omega arith) (minimals-rising p) (minimals-below p))
     | inr o ↦ rw (minimals-no P p o) (minimals-rising p)
   ]

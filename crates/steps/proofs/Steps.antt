@@ -1,15 +1,14 @@
 -- One step, case by case, over plain variables.
 -- Assumes nothing.
 use mathlib.Core.Path.{_≡_, refl}
-use mathlib.Core.Bool.{Bool, true, false, cond}
+use mathlib.Core.Bool.{Bool, true, false, cond, true≢false}
 use mathlib.Core.List.{List}
 use mathlib.Core.Logic.{_⊎_, inl, inr}
 use Prim.Native.Nat.{ℕ, _+_, _<_, _≤_}
-use native.Mathlib.Omega.{arith}
 use borrow.Author.Tests.{ltb-true, ltb-false, eq-eqb, ne-eqb, lt-ltb, le-ltb}
 use lib.Dec.{eqb, ltb}
 use lib.ListN.{length, take, set}
-use Rattle.steps.specs.Scenarios.{Problem, scenarios}
+use Rattle.steps.specs.Explanations.{Problem, scenarios}
 use Rattle.steps.specs.Continuing.{newTo, Move, stands, tries, writes, move, Work, work, step}
 
 -- ---- what a step does, over plain variables
@@ -39,9 +38,9 @@ module _ (P : Problem) (p f : ℕ) (l : List ℕ) where
     where
       go : (x y : Bool) → newTo P (take f l) p ≡ x → ltb f (length l) ≡ y → cond x (cond y writes stands) tries ≡ stands
           → (newTo P (take f l) p ≡ true) × (length l ≤ f)
-      go true true a b h = absurd (let z : _≡_ {A = ℕ} 0 1 = cc in omega arith)
+      go true true a b h = absurd (true≢false cc)
       go true false a b h = (a, ltb-false f (length l) b)
-      go false y a b h = absurd (let z : _≡_ {A = ℕ} 0 1 = cc in omega arith)
+      go false y a b h = absurd (true≢false cc)
 
   -- Where a step only tries, its scenario is not new.
   pub move-tries-old : move P p f l ≡ tries → newTo P (take f l) p ≡ false
@@ -49,9 +48,9 @@ module _ (P : Problem) (p f : ℕ) (l : List ℕ) where
   move-tries-old e = go (eqb p (scenarios P)) (newTo P (take f l) p) (ltb f (length l)) refl e
     where
       go : (x y z : Bool) → newTo P (take f l) p ≡ y → cond x stands (cond y (cond z writes stands) tries) ≡ tries → newTo P (take f l) p ≡ false
-      go true y z a h = absurd (let q : _≡_ {A = ℕ} 0 1 = cc in omega arith)
-      go false true true a h = absurd (let q : _≡_ {A = ℕ} 0 1 = cc in omega arith)
-      go false true false a h = absurd (let q : _≡_ {A = ℕ} 0 1 = cc in omega arith)
+      go true y z a h = absurd (true≢false cc)
+      go false true true a h = absurd (true≢false cc)
+      go false true false a h = absurd (true≢false cc)
       go false false z a h = a
 
   -- Where a step writes, its scenario is new, and there is room.
@@ -61,19 +60,19 @@ module _ (P : Problem) (p f : ℕ) (l : List ℕ) where
     where
       go : (x y : Bool) → newTo P (take f l) p ≡ y → cond x stands (cond y (cond (ltb f (length l)) writes stands) tries) ≡ writes
           → newTo P (take f l) p ≡ true
-      go true y a h = absurd (let q : _≡_ {A = ℕ} 0 1 = cc in omega arith)
+      go true y a h = absurd (true≢false cc)
       go false true a h = a
-      go false false a h = absurd (let q : _≡_ {A = ℕ} 0 1 = cc in omega arith)
+      go false false a h = absurd (true≢false cc)
 
   pub move-writes-tells : move P p f l ≡ writes → f < length l
   unfolding move
   move-writes-tells e = go (eqb p (scenarios P)) (newTo P (take f l) p) (ltb f (length l)) refl e
     where
       go : (x y z : Bool) → ltb f (length l) ≡ z → cond x stands (cond y (cond z writes stands) tries) ≡ writes → f < length l
-      go true y z a h = absurd (let q : _≡_ {A = ℕ} 0 1 = cc in omega arith)
+      go true y z a h = absurd (true≢false cc)
       go false true true a h = ltb-true f (length l) a
-      go false true false a h = absurd (let q : _≡_ {A = ℕ} 0 1 = cc in omega arith)
-      go false false z a h = absurd (let q : _≡_ {A = ℕ} 0 1 = cc in omega arith)
+      go false true false a h = absurd (true≢false cc)
+      go false false z a h = absurd (true≢false cc)
 
   -- ---- the step by its move
 

@@ -6,7 +6,7 @@ use native.Mathlib.Omega.{arith}
 use native.Mathlib.Decide.{decLt}
 use lib.Dec.{T}
 use lib.ListN.{length, List·getD-eq-default}
-use Rattle.steps.specs.Scenarios.{Problem, scenarios, minimal, minimals, stop}
+use Rattle.steps.specs.Explanations.{Problem, scenarios, minimal, minimals, stop}
 use Rattle.steps.proofs.Minimals.{nth, prefix-at, listed-at}
 
 module _ (P : Problem) (L : ℕ) where

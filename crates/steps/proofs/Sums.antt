@@ -4,7 +4,7 @@ use mathlib.Core.Path.{_≡_, refl, sym}
 use Prim.Native.Nat.{ℕ, zero, suc, _+_, _*_, _<_, _≤_}
 use native.Mathlib.Omega.{arith}
 use native.Mathlib.Nat.{add-zero, add-suc, add-assoc, mul-suc}
-use Rattle.steps.specs.Scenarios.{Problem, sumBelow, roundsFrom}
+use Rattle.steps.specs.Explanations.{Problem, sumBelow, roundsFrom}
 
 pub sum-add : (f : ℕ → ℕ) (a b : ℕ) → sumBelow (a + b) f ≡ sumBelow a f + sumBelow b (λ i. f (a + i))
 unfolding sumBelow

@@ -1,8 +1,9 @@
 -- A list of continue calls, "of any length, the empty one included", each given the record and the list as the call before left them.
-use mathlib.Core.Bool.{Bool, true, false, cond, _||_}
+use mathlib.Core.Bool.{Bool, true, false, cond}
 use mathlib.Core.List.{List, [], _∷_}
 use Prim.Native.Nat.{ℕ, _+_}
-use Rattle.steps.specs.Scenarios.{Problem}
+use Rattle.papers.specs.Tests.{_or_}
+use Rattle.steps.specs.Explanations.{Problem}
 use Rattle.steps.specs.Continuing.{Record, Report, continue}
 use Rattle.steps.specs.Spoilt.{spoilt}
 
@@ -17,7 +18,7 @@ pub data Answer : Type 0 where
 
 -- A call is refused for a reason of its own or by test 14, and else continues.
 unfoldable pub answer : Problem → Call → Record → List ℕ → Answer
-answer P c r list = elim (c .refused || spoilt P r list) [
+answer P c r list = elim (c .refused or spoilt P r list) [
   | true ↦ refusal
   | false ↦ report (continue P (c .allowance) r list)
 ]

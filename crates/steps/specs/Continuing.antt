@@ -1,13 +1,14 @@
 -- One call: the record and the list, the single step, and what continuing reports.
 use mathlib.Core.Path.{_≡_}
-use mathlib.Core.Bool.{Bool, true, false, not, cond, _&&_, _||_}
+use mathlib.Core.Bool.{Bool, true, false, not, cond}
 use mathlib.Core.List.{List, [], _∷_, _++_}
 use Prim.Native.Nat.{ℕ, zero, suc, _+_, _-_, _<_, _≤_}
 use lib.Dec.{eqb, ltb, leb}
 use lib.ListN.{length, take, set}
+use Rattle.papers.specs.Tests.{_and_, _or_}
 use Rattle.steps.specs.declared.State.{State}
 use Rattle.steps.specs.declared.State.the-variants.{Ended, Full, Going}
-use Rattle.steps.specs.Scenarios.{Problem, scenarios, partOf}
+use Rattle.steps.specs.Explanations.{Problem, scenarios, partOf}
 -- The record of a search, as the code declares it: its next scenario, and how many of the list's entries are found ones.
 pub use Rattle.steps.specs.declared.Record.{Record}
 
@@ -18,11 +19,11 @@ fresh = record { position = 0; found = 0 }
 -- A scenario contains the assumptions of some entry.
 unfoldable pub containsOne : ℕ → List ℕ → ℕ → Bool
 containsOne k [] p = false
-containsOne k (entry ∷ more) p = partOf k entry p || containsOne k more p
+containsOne k (entry ∷ more) p = partOf k entry p or containsOne k more p
 
 -- "Minimal means an explanation containing no listed entry's assumptions." From a fresh search this is `minimal`.
 unfoldable pub newTo : Problem → List ℕ → ℕ → Bool
-newTo P entries p = P .explains p && not (containsOne (P .abducibles) entries p)
+newTo P entries p = P .explains p and not (containsOne (P .abducibles) entries p)
 
 -- What a step does: it stands still, only tries its scenario, or writes it to the list too.
 pub data Move : Type 0 where
@@ -113,7 +114,7 @@ listedAt P r list q = listedAfter P (take (r .found) list) (r .position) (q - r 
 
 -- Scenario q is "an explanation containing no listed entry's assumptions", and it "finds the list full".
 unfoldable pub findsFull : Problem → Record → List ℕ → ℕ → Bool
-findsFull P r list q = newTo P (listedAt P r list q) q && leb (length list) (length (listedAt P r list q))
+findsFull P r list q = newTo P (listedAt P r list q) q and leb (length list) (length (listedAt P r list q))
 
 -- "The stopping point is the first such scenario at or after p that finds the list full, else 3^k."
 pub record FirstFull (P : Problem) (r : Record) (list : List ℕ) (stop : ℕ) : Type 0 where

@@ -5,7 +5,7 @@ use mathlib.Core.List.{List, map}
 use Prim.Native.Nat.{ℕ, _*_, _<_, _≤_, min}
 use lib.ListN.{length, take, drop}
 use Rattle.papers.specs.Valid.{All}
-use Rattle.steps.specs.Scenarios.{Problem, scenarios, minimals, stop, sumBelow}
+use Rattle.steps.specs.Explanations.{Problem, scenarios, minimals, stop, sumBelow}
 use Rattle.steps.specs.declared.State.the-variants.{Ended, Full}
 use Rattle.steps.specs.Continuing.{Report, fresh}
 use Rattle.steps.specs.Spoilt.{spoilt}

@@ -6,7 +6,7 @@ use mathlib.Core.Logic.{_⊎_, inl, inr}
 use Prim.Native.Nat.{ℕ, _+_, _-_, _<_, _≤_}
 use native.Mathlib.Omega.{arith}
 use Rattle.stepping.specs.declared.Progress.{Progress}
-use Rattle.steps.specs.Scenarios.{Problem, scenarios}
+use Rattle.steps.specs.Explanations.{Problem, scenarios}
 use Rattle.steps.specs.Continuing.{steps}
 use Rattle.stepping.specs.Stepping.{workOf, Kept, LanesTried, InLanes, Tried}
 use Rattle.steps.proofs.Steps.{step-end}

@@ -1,4 +1,8 @@
--- What judging tells of 64 scenarios, steps in batches, and how a call begins and what it reports.
+-- A call over accepted papers.
+
+-- What judging tells of 64 scenarios.
 pub mod JudgedLanes
+-- Steps in batches.
 pub mod Batches
-pub mod CallLaws
+-- How a call begins, and what it reports.
+pub mod CallReports

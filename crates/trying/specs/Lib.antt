@@ -1,2 +1,2 @@
--- A call over accepted papers, as its functions speak of it.
+-- A call over accepted papers: its problem, and what is told of it.
 pub mod Trying

@@ -11,7 +11,7 @@ use Rattle.model.specs.Model.{rounds, explains}
 use Rattle.verdicts.specs.VerdictLanes.{PapersStand, Prepared}
 use Rattle.trying.specs.declared.Report.{Report as CallReport}
 use Rattle.stepping.specs.declared.Progress.{Progress}
-use Rattle.steps.specs.Scenarios.{Problem}
+use Rattle.steps.specs.Explanations.{Problem}
 use Rattle.steps.specs.declared.Record.{Record}
 use Rattle.steps.specs.Continuing.{Report, stateBy}
 use Rattle.steps.specs.Spoilt.{spoiltBy}

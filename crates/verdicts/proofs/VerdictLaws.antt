@@ -11,7 +11,7 @@ use Rattle.literals.specs.Numbering.{judged, falsum}
 use Rattle.papers.specs.Program.{Program, Query}
 use Rattle.papers.specs.Valid.{ValidBody}
 use Rattle.papers.proofs.Lists.{all-each}
-use Rattle.model.specs.Tests.{_and_}
+use Rattle.papers.specs.Tests.{_and_}
 use Rattle.model.specs.Sets.{has}
 use Rattle.model.specs.LeastSet.{bodyHolds}
 use Rattle.lanes.specs.Lanes.{inLane, lane}

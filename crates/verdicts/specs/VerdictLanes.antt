@@ -14,7 +14,7 @@ use Rattle.papers.specs.Answers.{fileAnswer}
 use Rattle.papers.specs.Field.{numbers}
 use Rattle.papers.specs.Places.{Walked}
 use Rattle.rows.specs.DualBytes.{DualStarts}
-use Rattle.model.specs.Tests.{_and_}
+use Rattle.papers.specs.Tests.{_and_}
 use Rattle.model.specs.Sets.{has}
 use Rattle.model.specs.LeastSet.{bodyHolds}
 use Rattle.model.specs.Model.{rounds, explains}

@@ -9,8 +9,8 @@ use denote.Ref.{now}
 use lib.Bits.{bitOr}
 use lib.ListN.{getD}
 use Rattle.literals.specs.Numbering.{explicitConjugate, falsum}
-use Rattle.literals.proofs.Laws.{explicit-below}
-use Rattle.conjugates.proofs.AnswerLaws.{conjugate-tells, no-conjugate-tells}
+use Rattle.literals.proofs.NumberingLaws.{explicit-below}
+use Rattle.conjugates.proofs.ConjugateLaws.{conjugate-tells, no-conjugate-tells}
 use Rattle.lanes.specs.Lanes.{backingWord}
 use Rattle.backing.proofs.backing_word.Statement.{statement}
 use Rattle.backing.proofs.backing_word.Tie as tie

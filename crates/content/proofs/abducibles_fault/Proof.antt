@@ -8,7 +8,7 @@ use lib.ListN.{drop}
 use denote.Ref.{now}
 use Rattle.papers.specs.Field.{numbers}
 use Rattle.papers.specs.Content.{abduciblesFault}
-use Rattle.papers.proofs.Walking.{abducibles-done, abducibles-unlisted, abducibles-disorder, abducibles-next}
+use Rattle.papers.proofs.NumbersWalked.{abducibles-done, abducibles-unlisted, abducibles-disorder, abducibles-next}
 use Rattle.content.proofs.abducibles_fault.Statement.{statement}
 use Rattle.content.proofs.abducibles_fault.Tie as tie
 

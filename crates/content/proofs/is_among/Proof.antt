@@ -8,7 +8,7 @@ use lib.ListN.{drop}
 use denote.Ref.{now}
 use Rattle.papers.specs.Field.{numbers}
 use Rattle.papers.specs.Content.{isAmong}
-use Rattle.papers.proofs.Walking.{among-done, among-stop, among-next}
+use Rattle.papers.proofs.NumbersWalked.{among-done, among-stop, among-next}
 use Rattle.content.proofs.is_among.Statement.{statement}
 use Rattle.content.proofs.is_among.Tie as tie
 

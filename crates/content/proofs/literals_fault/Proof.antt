@@ -9,7 +9,7 @@ use lib.ListN.{drop}
 use denote.Ref.{now}
 use Rattle.papers.specs.Field.{numbers}
 use Rattle.papers.specs.Content.{literalsFault}
-use Rattle.papers.proofs.Walking.{literals-done, literals-stop, literals-next}
+use Rattle.papers.proofs.NumbersWalked.{literals-done, literals-stop, literals-next}
 use Rattle.content.proofs.literals_fault.Statement.{statement}
 use Rattle.content.proofs.literals_fault.Tie as tie
 

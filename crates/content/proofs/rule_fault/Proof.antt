@@ -6,8 +6,8 @@ use mathlib.Core.List.{List}
 use Prim.Native.Nat.{ℕ, _*_, _/_, _<_}
 use Rattle.papers.specs.Field.{numbers}
 use Rattle.papers.specs.Content.{isAmong, literalsFault}
-use Rattle.papers.proofs.Walking.{to-end, rule-unlisted, rule-fixed, rule-body}
-use Rattle.conjugates.proofs.AnswerLaws.{atom-tells, no-atom-tells}
+use Rattle.papers.proofs.NumbersWalked.{to-end, rule-unlisted, rule-fixed, rule-body}
+use Rattle.conjugates.proofs.ConjugateLaws.{atom-tells, no-atom-tells}
 use borrow.Author.Needs.{needs}
 use Rattle.content.proofs.rule_fault.Statement.{statement}
 use Rattle.content.proofs.rule_fault.Tie as tie

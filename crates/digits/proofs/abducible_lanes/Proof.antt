@@ -18,9 +18,9 @@ use Rattle.papers.specs.Field.{numbers}
 use Rattle.papers.specs.Reading.{readFile, programIn}
 use Rattle.papers.specs.Answers.{fileAnswer}
 use Rattle.papers.proofs.NumberLaws.{Bytes}
-use Rattle.papers.proofs.FoldAnswers.{abducibles-there}
+use Rattle.papers.proofs.FoldsWalked.{abducibles-there}
 use Rattle.papers.proofs.FileFacts.{atoms-are, abducibles-are, program-valid}
-use Rattle.digits.proofs.RowLaws.{cleared as cleared-of}
+use Rattle.digits.proofs.ClearedWords.{cleared as cleared-of}
 use Rattle.digits.proofs.SeedLaws.{Seeding, seeding-none, seeding-below, seeding-more, seeding-ends}
 use Rattle.digits.proofs.abducible_lanes.Statement.{statement}
 use Rattle.digits.proofs.abducible_lanes.Tie as tie

@@ -10,7 +10,7 @@ use Rattle.papers.specs.Outcome.{accepted}
 use Rattle.papers.specs.Program.{Program}
 use Rattle.papers.specs.Reading.{readFile, programIn}
 use Rattle.papers.proofs.FileFacts.{told}
-use Rattle.papers.proofs.Walking.{to-end}
+use Rattle.papers.proofs.NumbersWalked.{to-end}
 use Rattle.dual.proofs.FilledLaws.{put-end}
 use Rattle.dual_writer.proofs.TableWriting.{table-length, end-written, dual-short, dual-length-is, dual-fits}
 use borrow.Author.Needs.{needs}

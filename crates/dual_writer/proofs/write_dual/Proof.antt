@@ -3,9 +3,9 @@
 use mathlib.Core.Path.{sym, _∙_}
 use denote.Ref.{now}
 use Rattle.papers.specs.Reading.{readFile}
-use Rattle.papers.proofs.Answered.{file-refused}
+use Rattle.papers.proofs.ReadersGot.{file-refused}
 use Rattle.papers.proofs.ToldLaws.{file-told}
-use Rattle.dual_writer.specs.Answers.{writtenTold, dualTold}
+use Rattle.dual_writer.specs.WrittenDual.{writtenTold, dualTold}
 use borrow.Author.Needs.{needs}
 use Rattle.dual_writer.proofs.write_dual.Statement.{statement}
 use Rattle.dual_writer.proofs.write_dual.Tie as tie

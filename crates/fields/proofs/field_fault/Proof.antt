@@ -3,7 +3,7 @@
 use denote.Ref.{now}
 use mathlib.Core.Path.{sym, _∙_}
 use borrow.Author.Tests.{not-true, not-false}
-use Rattle.papers.proofs.FieldAnswers.{fault-cut, fault-stray, fault-full, fault-misfit, fault-short, fault-none}
+use Rattle.papers.proofs.FieldTests.{fault-cut, fault-stray, fault-full, fault-misfit, fault-short, fault-none}
 use borrow.Author.Needs.{needs}
 use Rattle.fields.proofs.field_fault.Statement.{statement}
 use Rattle.fields.proofs.field_fault.Tie as tie

@@ -2,7 +2,7 @@
 -- Assumes nothing.
 use denote.Ref.{now}
 use native.Mathlib.Omega.{arith}
-use Rattle.papers.proofs.FieldAnswers.{field-refused, field-heading, field-content}
+use Rattle.papers.proofs.FieldTests.{field-refused, field-heading, field-content}
 use borrow.Author.Needs.{needs}
 use Rattle.fields.proofs.read_field.Statement.{statement}
 use Rattle.fields.proofs.read_field.Tie as tie

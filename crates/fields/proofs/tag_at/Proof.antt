@@ -3,7 +3,7 @@
 use mathlib.Core.Path.{sym}
 use denote.Ref.{now}
 use lib.ListN.{drop-of-length-le}
-use Rattle.papers.proofs.FieldAnswers.{tag-there}
+use Rattle.papers.proofs.FieldTests.{tag-there}
 use borrow.Author.Needs.{needs}
 use Rattle.fields.proofs.tag_at.Statement.{statement}
 use Rattle.fields.proofs.tag_at.Tie as tie

@@ -2,7 +2,7 @@
 -- Assumes nothing.
 use borrow.Author.Needs.{needs}
 use Rattle.papers.specs.Told.{bareTold, refusalTold}
-use Rattle.dual_writer.specs.Answers.{writtenTold}
+use Rattle.dual_writer.specs.WrittenDual.{writtenTold}
 use Rattle.finder_c.proofs.dual_words.Statement.{statement}
 use Rattle.finder_c.proofs.dual_words.Tie as tie
 

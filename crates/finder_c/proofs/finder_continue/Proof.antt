@@ -2,7 +2,7 @@
 -- Assumes nothing.
 use borrow.Author.Needs.{needs}
 use mathlib.Core.Path.{ap, _∙_}
-use Rattle.finder_c.specs.Words.{recordOf, continuedWords}
+use Rattle.finder_c.specs.AnswerWords.{recordOf, continuedWords}
 use Rattle.finder_c.proofs.finder_continue.Statement.{statement}
 use Rattle.finder_c.proofs.finder_continue.Tie as tie
 

@@ -2,7 +2,7 @@
 -- Assumes nothing.
 use borrow.Author.Needs.{needs}
 use mathlib.Core.Path.{ap, _∙_}
-use Rattle.finder_c.specs.Words.{judgedWords}
+use Rattle.finder_c.specs.AnswerWords.{judgedWords}
 use Rattle.finder_c.proofs.finder_judge.Statement.{statement}
 use Rattle.finder_c.proofs.finder_judge.Tie as tie
 

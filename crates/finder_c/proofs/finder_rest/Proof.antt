@@ -9,9 +9,9 @@ use Rattle.papers.specs.Outcome.{Outcome}
 use Rattle.papers.specs.Reading.{Papers, readPapers}
 use Rattle.papers.specs.Answers.{papersAnswer}
 use Rattle.papers.specs.Told.{readTold, refusalTold}
-use Rattle.papers.proofs.Answered.{papers-accepted, papers-refused}
+use Rattle.papers.proofs.ReadersGot.{papers-accepted, papers-refused}
 use Rattle.papers.proofs.ToldLaws.{papers-told}
-use Rattle.finder_c.specs.Words.{two, refusalWords}
+use Rattle.finder_c.specs.AnswerWords.{two, refusalWords}
 use borrow.Author.Needs.{needs}
 use Rattle.finder_c.proofs.finder_rest.Statement.{statement}
 use Rattle.finder_c.proofs.finder_rest.Tie as tie

@@ -1,7 +1,7 @@
 -- `finder_c::finder_write_dual` meets its contract.
 -- Assumes nothing.
 use mathlib.Core.Path.{ap, _∙_}
-use Rattle.finder_c.specs.Words.{dualWords}
+use Rattle.finder_c.specs.AnswerWords.{dualWords}
 use borrow.Author.Needs.{needs}
 use Rattle.finder_c.proofs.finder_write_dual.Statement.{statement}
 use Rattle.finder_c.proofs.finder_write_dual.Tie as tie

@@ -8,7 +8,7 @@ use lib.ListN.{length, getD, take, drop}
 use Rattle.papers.specs.Program.{ruleAt}
 use Rattle.papers.specs.Reading.{programIn}
 use Rattle.papers.specs.Places.{BodyOf}
-use Rattle.papers.proofs.FoldAnswers.{fold-few, place-heading, body-there, body-headed, body-bare}
+use Rattle.papers.proofs.FoldsWalked.{fold-few, place-heading, body-there, body-headed, body-bare}
 use borrow.Author.Needs.{needs}
 use Rattle.folds.proofs.body_of.Statement.{statement}
 use Rattle.folds.proofs.body_of.Tie as tie

@@ -3,7 +3,7 @@
 use mathlib.Core.Path.{sym, ap, _∙_}
 use Prim.Native.Nat.{ℕ, _+_}
 use denote.Ref.{now}
-use Rattle.papers.proofs.FieldAnswers.{size-there}
+use Rattle.papers.proofs.FieldTests.{size-there}
 use borrow.Author.Needs.{needs}
 use Rattle.folds.proofs.field_end.Statement.{statement}
 use Rattle.folds.proofs.field_end.Tie as tie

@@ -11,7 +11,7 @@ use Rattle.papers.specs.Program.{Program, allRules}
 use Rattle.papers.specs.Reading.{programIn}
 use Rattle.papers.specs.Places.{foldPlace}
 use Rattle.papers.proofs.RuleLaws.{rules-count}
-use Rattle.papers.proofs.FoldAnswers.{folds-counted, few-folds, first-place, fold-heading, next-place}
+use Rattle.papers.proofs.FoldsWalked.{folds-counted, few-folds, first-place, fold-heading, next-place}
 use Rattle.folds.proofs.fold_places.Statement.{statement}
 use Rattle.folds.proofs.fold_places.Tie as tie
 

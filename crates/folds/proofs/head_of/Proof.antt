@@ -4,7 +4,7 @@ use Prim.Native.Nat.{ℕ, _+_, _<_}
 use native.Mathlib.Omega.{arith}
 use denote.Ref.{now}
 use lib.ListN.{length, getD}
-use Rattle.papers.proofs.FoldAnswers.{fold-few, headed, head-there, head-falsum}
+use Rattle.papers.proofs.FoldsWalked.{fold-few, headed, head-there, head-falsum}
 use borrow.Author.Needs.{needs}
 use Rattle.folds.proofs.head_of.Statement.{statement}
 use Rattle.folds.proofs.head_of.Tie as tie

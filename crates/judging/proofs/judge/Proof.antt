@@ -3,7 +3,7 @@
 use borrow.Author.Needs.{needs}
 use borrow.Author.Tests.{not-true, not-false, ltb-true, ltb-false, leb-true, leb-false}
 use mathlib.Core.Path.{_≡_, sym, subst, _∙_}
-use mathlib.Core.Bool.{Bool, true, false, _&&_}
+use mathlib.Core.Bool.{Bool, true, false, _&&_, true≢false}
 use mathlib.Core.List.{List}
 use Prim.Native.Nat.{ℕ, _<_, _≤_}
 use native.Mathlib.Omega.{arith}
@@ -16,9 +16,9 @@ use Rattle.papers.specs.declared.PapersRead.the-variants.{Accepted}
 use Rattle.papers.specs.Outcome.{accepted}
 use Rattle.papers.specs.Reading.{Papers, readFile, readPapers, programIn}
 use Rattle.papers.specs.Answers.{papersAnswer}
-use Rattle.papers.proofs.Answered.{papers-refused}
+use Rattle.papers.proofs.ReadersGot.{papers-refused}
 use Rattle.papers.proofs.FileFacts.{told, program-valid, atoms-are}
-use Rattle.papers.proofs.PapersAnswers.{BothTold, both-told}
+use Rattle.papers.proofs.BothAccepted.{BothTold, both-told}
 use Rattle.papers.proofs.ToldLaws.{papers-told}
 use Rattle.dual.specs.Bytes.{dualOf, filled}
 use Rattle.dual_writer.proofs.BothPapers.{papersIn, both-read, both-asked, few-abducibles, few-literals, scenarios-are}
@@ -148,7 +148,7 @@ enum-told : tie.Need-enum-told
 enum-told c = search needs
 
 returns : tie.Need-returns
-returns c = absurd (let e = c .enum-told .given .1 in let z : _≡_ {A = ℕ} 0 1 = cc in omega arith)
+returns c = absurd (let e = c .enum-told .given .1 in true≢false cc)
 
 returns-2 : tie.Need-returns-2
 returns-2 c =

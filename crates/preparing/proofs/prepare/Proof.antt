@@ -12,7 +12,7 @@ use Rattle.papers.specs.Program.{Program}
 use Rattle.papers.specs.Reading.{programIn}
 use Rattle.parts.specs.Parts.{Unmarked}
 use Rattle.papers.proofs.FileFacts.{atoms-are}
-use Rattle.papers.proofs.FoldAnswers.{rules-counted, few-folds}
+use Rattle.papers.proofs.FoldsWalked.{rules-counted, few-folds}
 use Rattle.rows.specs.Rows.{ruleRows, entryRows, joined}
 use Rattle.rows.proofs.RowLaws.{rule-rows-count, rule-rows-bound, entry-rows-count, entry-rows-bound}
 use Rattle.preparing.proofs.RowsPrepared.{visits-unmarked, rows-prepared}

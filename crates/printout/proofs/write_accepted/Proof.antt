@@ -11,7 +11,7 @@ use Rattle.papers.specs.Field.{numbers}
 use Rattle.papers.specs.Reading.{readPapers}
 use Rattle.papers.proofs.NumberLaws.{Bytes}
 use Rattle.trying.specs.Trying.{problemOf}
-use Rattle.printout.specs.Search.{AcceptedAs, problemFor}
+use Rattle.printout.specs.DeskSearch.{AcceptedAs, problemFor}
 use Rattle.printout.specs.Output.{foundLines}
 use Rattle.printout.proofs.PaperLaws.{problem-is, small, program-valid, abducibles-below, listed-are, few-listed, atoms-told, listed-within, listed-there}
 use Rattle.printout.proofs.TextLaws.{few-found, lines-few, text-put, text-is}

@@ -5,7 +5,7 @@ use native.Mathlib.Omega.{arith}
 use borrow.Author.Needs.{needs}
 use denote.Ref.{now}
 use Rattle.papers.specs.Reading.{readPapers}
-use Rattle.papers.proofs.Answered.{papers-accepted, papers-refused}
+use Rattle.papers.proofs.ReadersGot.{papers-accepted, papers-refused}
 use Rattle.papers.proofs.ToldLaws.{papers-told}
 use Rattle.printout.specs.Output.{deskText}
 use Rattle.printout.proofs.write_report.Statement.{statement}

@@ -8,8 +8,8 @@ use denote.Ref.{now}
 use lib.ListN.{length}
 use Rattle.papers.specs.Outcome.{accepted}
 use Rattle.papers.specs.Reading.{readEdition, readAtoms, readAbducibles}
-use Rattle.papers.proofs.Answered.{Listed, number-accepted, number-refused, count-accepted, count-refused}
-use Rattle.papers.proofs.FileAnswers.{file-edition, edition-within, file-atoms, atoms-within, file-abducibles, listed-are, file-rules}
+use Rattle.papers.proofs.ReadersGot.{Listed, number-accepted, number-refused, count-accepted, count-refused}
+use Rattle.papers.proofs.WholePapers.{file-edition, edition-within, file-atoms, atoms-within, file-abducibles, listed-are, file-rules}
 use Rattle.papers.proofs.ToldLaws.{file-tells}
 use borrow.Author.Needs.{needs}
 use Rattle.reading.proofs.read_file.Statement.{statement}

@@ -5,8 +5,8 @@ use mathlib.Core.List.{List}
 use Prim.Native.Nat.{ℕ}
 use denote.Ref.{now}
 use Rattle.papers.specs.Reading.{readFile}
-use Rattle.papers.proofs.Answered.{Filed, file-accepted, file-refused, count-accepted, count-refused}
-use Rattle.papers.proofs.FileAnswers.{papers-file, papers-sheet, papers-both}
+use Rattle.papers.proofs.ReadersGot.{Filed, file-accepted, file-refused, count-accepted, count-refused}
+use Rattle.papers.proofs.WholePapers.{papers-file, papers-sheet, papers-both}
 use Rattle.papers.proofs.ToldLaws.{file-told, papers-tells}
 use borrow.Author.Needs.{needs}
 use Rattle.reading.proofs.read_papers.Statement.{statement}

@@ -10,9 +10,9 @@ use denote.Ref.{now}
 use Rattle.papers.specs.declared.Paper.the-variants.{Sheet}
 use Rattle.papers.specs.declared.NumberRead.the-variants.{Number}
 use Rattle.papers.specs.Reading.{readSheet}
-use Rattle.papers.proofs.Got.{Got, got-content, got-refused}
-use Rattle.papers.proofs.Answered.{number-accepted, number-refused}
-use Rattle.papers.proofs.FileAnswers.{sheet-fault, sheet-end, sheet-query}
+use Rattle.papers.proofs.FieldGot.{Got, got-content, got-refused}
+use Rattle.papers.proofs.ReadersGot.{number-accepted, number-refused}
+use Rattle.papers.proofs.WholePapers.{sheet-fault, sheet-end, sheet-query}
 use borrow.Author.Needs.{needs}
 use Rattle.reading.proofs.read_sheet.Statement.{statement}
 use Rattle.reading.proofs.read_sheet.Tie as tie

@@ -6,7 +6,7 @@ use denote.Ref.{now}
 use native.Mathlib.Nat.{le-of-lt}
 use lib.ListN.{length, drop-of-length-le}
 use lib.Seq.{drop-length}
-use Rattle.papers.proofs.Walking.{to-end}
+use Rattle.papers.proofs.NumbersWalked.{to-end}
 use borrow.Author.Needs.{needs}
 use Rattle.rest.proofs.part_from.Statement.{statement}
 use Rattle.rest.proofs.part_from.Tie as tie

@@ -8,7 +8,7 @@ use native.Mathlib.Omega.{arith}
 use lib.Seq.{drop-length}
 use Rattle.papers.specs.Reading.{readPapers}
 use Rattle.papers.specs.Answers.{papersAnswer}
-use Rattle.papers.proofs.Answered.{papers-accepted, papers-refused}
+use Rattle.papers.proofs.ReadersGot.{papers-accepted, papers-refused}
 use Rattle.papers.proofs.Placed.{refused-within}
 use Rattle.papers.proofs.ToldLaws.{papers-told}
 use borrow.Author.Needs.{needs}

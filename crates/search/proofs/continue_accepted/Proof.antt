@@ -9,14 +9,14 @@ use denote.Ref.{now}
 use Rattle.papers.specs.Outcome.{accepted}
 use Rattle.papers.specs.Reading.{Papers, readFile, readPapers, programIn}
 use Rattle.papers.proofs.FileFacts.{told, program-valid}
-use Rattle.papers.proofs.PapersAnswers.{BothTold, both-told}
+use Rattle.papers.proofs.BothAccepted.{BothTold, both-told}
 use Rattle.dual_writer.proofs.BothPapers.{papersIn, both-read, both-asked, few-abducibles, few-literals, scenarios-are}
 use Rattle.dual_writer.proofs.BothPapers.{other-told, dual-fits, dual-short, dual-stays, dual-kept, dual-filled}
 use Rattle.rows.specs.DualBytes.{DualStarts}
 use Rattle.rows.proofs.EntryBytes.{filled-starts}
 use Rattle.steps.specs.Spoilt.{spoilt}
 use Rattle.trying.specs.Trying.{problemOf}
-use Rattle.search.proofs.AnswerLaws.{spoilt-is, answers-short, answers-spoilt, answers-report}
+use Rattle.search.proofs.ContinueLaws.{spoilt-is, answers-short, answers-spoilt, answers-report}
 use Rattle.search.proofs.continue_accepted.Statement.{statement}
 use Rattle.search.proofs.continue_accepted.Tie as tie
 

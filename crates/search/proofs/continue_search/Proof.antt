@@ -6,9 +6,9 @@ use native.Mathlib.Omega.{arith}
 use borrow.Author.Needs.{needs}
 use denote.Ref.{now}
 use Rattle.papers.specs.Reading.{readPapers}
-use Rattle.papers.proofs.Answered.{papers-refused}
+use Rattle.papers.proofs.ReadersGot.{papers-refused}
 use Rattle.papers.proofs.ToldLaws.{papers-told}
-use Rattle.search.proofs.AnswerLaws.{answers-refused}
+use Rattle.search.proofs.ContinueLaws.{answers-refused}
 use Rattle.search.proofs.continue_search.Statement.{statement}
 use Rattle.search.proofs.continue_search.Tie as tie
 

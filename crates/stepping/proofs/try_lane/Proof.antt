@@ -2,7 +2,7 @@
 -- Assumes nothing.
 use native.Mathlib.Omega.{arith}
 use borrow.Author.Needs.{needs}
-use Rattle.stepping.proofs.Trying.{lane-stands, lane-tries, lane-writes}
+use Rattle.stepping.proofs.BatchSteps.{lane-stands, lane-tries, lane-writes}
 use Rattle.stepping.proofs.try_lane.Statement.{statement}
 use Rattle.stepping.proofs.try_lane.Tie as tie
 

@@ -8,7 +8,7 @@ use borrow.Author.Needs.{needs}
 use denote.Ref.{now}
 use lib.ListN.{take}
 use Rattle.stepping.specs.Stepping.{LanesTried}
-use Rattle.stepping.proofs.Trying.{lanes-none, lanes-next, lanes-short}
+use Rattle.stepping.proofs.BatchSteps.{lanes-none, lanes-next, lanes-short}
 use Rattle.stepping.proofs.try_lanes.Statement.{statement}
 use Rattle.stepping.proofs.try_lanes.Tie as tie
 

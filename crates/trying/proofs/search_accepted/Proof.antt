@@ -8,7 +8,7 @@ use Rattle.papers.specs.Field.{numbers}
 use Rattle.steps.specs.Continuing.{steps, begun}
 use Rattle.steps.proofs.Runs.{steps-zero}
 use Rattle.trying.specs.Trying.{problemIn}
-use Rattle.trying.proofs.CallLaws.{call-told, call-list}
+use Rattle.trying.proofs.CallReports.{call-told, call-list}
 use Rattle.trying.proofs.search_accepted.Statement.{statement}
 use Rattle.trying.proofs.search_accepted.Tie as tie
 

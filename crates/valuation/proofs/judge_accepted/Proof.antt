@@ -11,7 +11,7 @@ use Rattle.literals.specs.Numbering.{judged}
 use Rattle.papers.specs.Reading.{programIn}
 use Rattle.papers.specs.Field.{numbers}
 use Rattle.papers.proofs.FileFacts.{atoms-are, few-atoms}
-use Rattle.papers.proofs.FoldAnswers.{rules-counted, few-folds}
+use Rattle.papers.proofs.FoldsWalked.{rules-counted, few-folds}
 use Rattle.verdicts.specs.VerdictLanes.{Prepared}
 use Rattle.verdicts.proofs.PapersDecoded.{numbers-counted, query-part, papers-decoded}
 use Rattle.valuation.proofs.judge_accepted.Statement.{statement}

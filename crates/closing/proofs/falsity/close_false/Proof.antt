@@ -9,7 +9,7 @@ use denote.Ref.{now}
 use lib.ListN.{length}
 use Rattle.papers.specs.Reading.{programIn}
 use Rattle.parts.specs.Parts.{headAt, Apart}
-use Rattle.parts.proofs.PartLaws.{apart-none, apart-end}
+use Rattle.parts.proofs.MarkedParts.{apart-none, apart-end}
 use Rattle.closing.specs.FalseWords.{PartDropped}
 use Rattle.closing.proofs.EntriesVisited.{visits-judged, entries-visited, entries-parted, part-entries}
 use Rattle.closing.proofs.FalseParts.{parts-none, parts-more}

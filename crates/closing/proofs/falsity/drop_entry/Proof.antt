@@ -7,7 +7,7 @@ use native.Mathlib.Omega.{arith}
 use denote.Ref.{now}
 use lib.Bits.{bitAnd}
 use lib.ListN.{getD}
-use Rattle.model.specs.Tests.{_and_}
+use Rattle.papers.specs.Tests.{_and_}
 use Rattle.lanes.specs.Lanes.{inLane}
 use Rattle.lanes.proofs.LaneLaws.{lane-and}
 use Rattle.rows.specs.Rows.{entryRow}

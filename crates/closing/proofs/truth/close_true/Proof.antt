@@ -9,7 +9,7 @@ use denote.Ref.{now}
 use lib.ListN.{length, take}
 use lib.Seq.{take-all}
 use Rattle.parts.specs.Parts.{Apart, PartEnd}
-use Rattle.parts.proofs.PartLaws.{apart-none, apart-end}
+use Rattle.parts.proofs.MarkedParts.{apart-none, apart-end}
 use Rattle.closing.specs.Closing.{rulesIn, ClosedTrue}
 use Rattle.closing.proofs.TrueParts.{none-closed, part-stands, part-closed}
 use Rattle.closing.proofs.truth.close_true.Statement.{statement}

@@ -9,7 +9,7 @@ use denote.Ref.{now}
 use lib.ListN.{length}
 use Rattle.papers.specs.Program.{Rule, allRules}
 use Rattle.papers.specs.Reading.{programIn}
-use Rattle.papers.proofs.FoldAnswers.{rules-counted, few-folds}
+use Rattle.papers.proofs.FoldsWalked.{rules-counted, few-folds}
 use Rattle.dual_writer.proofs.ChainLaws.{Linked, linked-none, linked-more, linked-all}
 use Rattle.dual_writer.proofs.chains.fold_chains.Statement.{statement}
 use Rattle.dual_writer.proofs.chains.fold_chains.Tie as tie

@@ -6,13 +6,13 @@ use Prim.Native.Nat.{ℕ, _+_, _-_, _*_, _/_, _≤_}
 use native.Mathlib.Omega.{arith}
 use denote.Ref.{now}
 use lib.ListN.{length, take, drop}
-use Rattle.conjugates.proofs.AnswerLaws.{atom-tells, no-atom-tells}
+use Rattle.conjugates.proofs.ConjugateLaws.{atom-tells, no-atom-tells}
 use Rattle.papers.specs.Field.{numbers}
 use Rattle.papers.specs.Content.{isAmong}
 use Rattle.papers.specs.Program.{Program}
 use Rattle.papers.specs.Reading.{programIn}
 use Rattle.papers.proofs.FileFacts.{program-valid, atoms-are}
-use Rattle.papers.proofs.FoldAnswers.{abducibles-there}
+use Rattle.papers.proofs.FoldsWalked.{abducibles-there}
 use Rattle.dual_writer.proofs.EntryLaws.{unlisted-among}
 use borrow.Author.Needs.{needs}
 use Rattle.dual_writer.proofs.entries.is_abducible.Statement.{statement}

@@ -8,7 +8,7 @@ use denote.Ref.{now}
 use lib.ListN.{length, getD}
 use Rattle.papers.specs.Program.{Program, allRules, ruleAt}
 use Rattle.papers.specs.Reading.{programIn}
-use Rattle.papers.proofs.FoldAnswers.{few-body}
+use Rattle.papers.proofs.FoldsWalked.{few-body}
 use Rattle.dual.proofs.Folds.{FoldIn}
 use Rattle.dual_writer.proofs.EntryLaws.{Walking, walk-all, walk-starts, walk-done, walk-fold, walk-rises, walk-fact, walk-next}
 use Rattle.dual_writer.proofs.entries.rules_length.Statement.{statement}

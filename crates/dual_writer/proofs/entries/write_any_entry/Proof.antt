@@ -4,7 +4,7 @@ use mathlib.Core.Path.{_≡_}
 use denote.Ref.{now}
 use Rattle.papers.specs.Reading.{programIn}
 use Rattle.dual.specs.Table.{entry, entryIfAny}
-use Rattle.dual.specs.Encoding.{encodeFields}
+use Rattle.dual.specs.TableEncoding.{encodeFields}
 use Rattle.dual_writer.proofs.TableWriting.{no-entry, some-entry}
 use borrow.Author.Needs.{needs}
 use Rattle.dual_writer.proofs.entries.write_any_entry.Statement.{statement}

@@ -12,10 +12,10 @@ use Rattle.literals.specs.Numbering.{judged}
 use Rattle.papers.specs.Program.{Program}
 use Rattle.papers.specs.Reading.{programIn}
 use Rattle.dual.specs.Table.{entryIfAny}
-use Rattle.dual.specs.Encoding.{encodeFields}
+use Rattle.dual.specs.TableEncoding.{encodeFields}
 use Rattle.dual.specs.Bytes.{filled}
 use Rattle.papers.proofs.FileFacts.{atoms-are, few-atoms}
-use Rattle.papers.proofs.Walking.{to-end}
+use Rattle.papers.proofs.NumbersWalked.{to-end}
 use Rattle.dual.proofs.FilledLaws.{put-end}
 use Rattle.dual_writer.proofs.TableWriting.{table-room, Tabled, tabled-none, tabled-more, tabled-done}
 use Rattle.dual_writer.proofs.entries.write_entries.Statement.{statement}

@@ -2,7 +2,7 @@
 -- Assumes nothing.
 use lib.ListN.{length-drop}
 use borrow.Rule.Slice.PartMut.{same-len-mid}
-use Rattle.papers.proofs.Walking.{to-end}
+use Rattle.papers.proofs.NumbersWalked.{to-end}
 use Rattle.dual.proofs.FilledLaws.{put-end}
 use mathlib.Core.Path.{_≡_, refl, ap, _∙_}
 use mathlib.Core.List.{List, _∷_}
@@ -13,7 +13,7 @@ use lib.ListN.{length, getD, drop}
 use Rattle.papers.specs.Program.{Program, allRules}
 use Rattle.papers.specs.Reading.{programIn}
 use Rattle.papers.specs.Encoding.{encodeNumbers, encodeField}
-use Rattle.papers.proofs.FoldAnswers.{few-body}
+use Rattle.papers.proofs.FoldsWalked.{few-body}
 use Rattle.dual.specs.Table.{foldsOf}
 use Rattle.dual_writer.specs.Chains.{Chain, foldsAt}
 use Rattle.dual.specs.Bytes.{filled}

@@ -8,7 +8,7 @@ use native.Mathlib.Omega.{arith}
 use denote.Ref.{now}
 use lib.ListN.{length, length-map}
 use Rattle.literals.specs.Numbering.{defaultConjugate}
-use Rattle.literals.proofs.Laws.{pair-sum}
+use Rattle.literals.proofs.NumberingLaws.{pair-sum}
 use Rattle.papers.specs.Field.{numbers}
 use Rattle.dual_writer.proofs.WritingLaws.{field-written, Conjugated, conjugated-none, conjugated-more, conjugated-done}
 use Rattle.dual_writer.proofs.writing.write_fold.Statement.{statement}

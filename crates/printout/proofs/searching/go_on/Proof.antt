@@ -15,10 +15,10 @@ use Rattle.dual.specs.Bytes.{dualOf}
 use Rattle.trying.specs.declared.Report.{Report}
 use Rattle.search.specs.Searching.{continuedTold, continueTold}
 use Rattle.search.proofs.Continued.{the-type}
-use Rattle.search.proofs.ToldLaws.{reported-told}
-use Rattle.printout.specs.Search.{Accepted, problemFor}
+use Rattle.search.proofs.ContinuedTold.{reported-told}
+use Rattle.printout.specs.DeskSearch.{Accepted, problemFor}
 use Rattle.printout.proofs.PaperLaws.{small, dual-few}
-use Rattle.printout.proofs.CallLaws.{Called, tells-report, called}
+use Rattle.printout.proofs.DeskCalls.{Called, tells-report, called}
 use Rattle.printout.proofs.searching.go_on.Statement.{statement}
 use Rattle.printout.proofs.searching.go_on.Tie as tie
 

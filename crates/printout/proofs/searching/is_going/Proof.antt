@@ -1,6 +1,6 @@
 -- `printout::searching::is_going` meets its contract.
 -- Assumes nothing.
-use Rattle.printout.specs.Search.{isGoing}
+use Rattle.printout.specs.DeskSearch.{isGoing}
 use borrow.Author.Needs.{needs}
 use Rattle.printout.proofs.searching.is_going.Statement.{statement}
 use Rattle.printout.proofs.searching.is_going.Tie as tie

@@ -1,16 +1,16 @@
 -- `printout::searching::search_all` meets its contract. The loop's invariant: the calls stand where they reached, and are finished where they do not go on.
 -- Assumes nothing.
 use mathlib.Core.Path.{_≡_, refl, sym, subst, _∙_}
-use mathlib.Core.Bool.{Bool, false}
+use mathlib.Core.Bool.{Bool, false, true≢false}
 use Prim.Native.Nat.{ℕ, _≤_, _<_}
 use native.Mathlib.Omega.{arith}
 use borrow.Author.Needs.{needs}
 use denote.Ref.{now}
 use lib.ListN.{length}
 use Rattle.papers.specs.Reading.{readPapers}
-use Rattle.steps.specs.Scenarios.{Problem, stop}
+use Rattle.steps.specs.Explanations.{Problem, stop}
 use Rattle.printout.specs.declared.searching.Progress.{Progress}
-use Rattle.printout.specs.Search.{problemFor, Stands, GoneOn, Finished}
+use Rattle.printout.specs.DeskSearch.{problemFor, Stands, GoneOn, Finished}
 use Rattle.printout.proofs.TurnLaws.{left, Turned, turned, begins}
 use Rattle.printout.proofs.searching.search_all.Statement.{statement}
 use Rattle.printout.proofs.searching.search_all.Tie as tie
@@ -62,7 +62,7 @@ loop-holds : tie.Need-loop-holds Inv-loop μ-loop
 loop-holds c =
     let a = c .before .before .before .before .before .args in (
       begins (problemFor (readPapers (now (a .file)) (now (a .sheet)))) (now (a .list)) _ (c .fresh .ensures) refl refl,
-      ((λ h. absurd (let z : _≡_ {A = ℕ} 0 1 = cc in omega arith)), (refl, refl)),
+      ((λ h. absurd (true≢false cc)), (refl, refl)),
     )
 
 go-on-requires : tie.Need-go-on-requires Inv-loop μ-loop

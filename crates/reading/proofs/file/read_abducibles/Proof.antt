@@ -7,8 +7,8 @@ use denote.Ref.{now}
 use Rattle.papers.specs.declared.Paper.the-variants.{File}
 use Rattle.papers.specs.Reading.{readAbducibles}
 use Rattle.papers.proofs.Checks.{passing-refuses}
-use Rattle.papers.proofs.Got.{Got, got-content, got-refused}
-use Rattle.papers.proofs.Walking.{count-numbers}
+use Rattle.papers.proofs.FieldGot.{Got, got-content, got-refused}
+use Rattle.papers.proofs.NumbersWalked.{count-numbers}
 use borrow.Author.Needs.{needs}
 use Rattle.reading.proofs.file.read_abducibles.Statement.{statement}
 use Rattle.reading.proofs.file.read_abducibles.Tie as tie

@@ -11,8 +11,8 @@ use lib.ListN.{length, take, drop}
 use Rattle.papers.specs.Field.{fewest}
 use Rattle.papers.specs.Content.{atomsFault}
 use Rattle.papers.specs.Reading.{readAtoms}
-use Rattle.papers.proofs.Got.{Got, got-content, got-refused, pairs-length}
-use Rattle.papers.proofs.Walking.{first-number}
+use Rattle.papers.proofs.FieldGot.{Got, got-content, got-refused, pairs-length}
+use Rattle.papers.proofs.NumbersWalked.{first-number}
 use borrow.Author.Needs.{needs}
 use Rattle.reading.proofs.file.read_atoms.Statement.{statement}
 use Rattle.reading.proofs.file.read_atoms.Tie as tie

@@ -8,7 +8,7 @@ use denote.Ref.{now}
 use Rattle.papers.specs.declared.Paper.the-variants.{File}
 use Rattle.papers.specs.Content.{editionFault}
 use Rattle.papers.specs.Reading.{readEdition}
-use Rattle.papers.proofs.Got.{Got, got-content, got-refused, edition-length}
+use Rattle.papers.proofs.FieldGot.{Got, got-content, got-refused, edition-length}
 use borrow.Author.Needs.{needs}
 use Rattle.reading.proofs.file.read_edition.Statement.{statement}
 use Rattle.reading.proofs.file.read_edition.Tie as tie

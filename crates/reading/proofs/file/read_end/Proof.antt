@@ -5,7 +5,7 @@ use mathlib.Core.Bool.{false}
 use borrow.Author.Tests.{eq-eqb, ne-eqb}
 use denote.Ref.{now}
 use Rattle.papers.specs.Reading.{readEnd}
-use Rattle.papers.proofs.Got.{Got, got-content, got-refused}
+use Rattle.papers.proofs.FieldGot.{Got, got-content, got-refused}
 use borrow.Author.Needs.{needs}
 use Rattle.reading.proofs.file.read_end.Statement.{statement}
 use Rattle.reading.proofs.file.read_end.Tie as tie

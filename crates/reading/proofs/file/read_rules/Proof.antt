@@ -11,8 +11,8 @@ use Rattle.papers.specs.Outcome.{Outcome}
 use Rattle.papers.specs.Field.{numbers}
 use Rattle.papers.specs.Reading.{Run, readRun}
 use Rattle.papers.specs.Answers.{runAnswer}
-use Rattle.papers.proofs.Answered.{Ran, run-accepted, run-not, number-accepted, number-refused}
-use Rattle.papers.proofs.RulesAnswers.{listedIn, rules-refused, rules-within, integrity-refused, integrity-within, end-refused, all-accepted}
+use Rattle.papers.proofs.ReadersGot.{Ran, run-accepted, run-not, number-accepted, number-refused}
+use Rattle.papers.proofs.RulesToEnd.{listedIn, rules-refused, rules-within, integrity-refused, integrity-within, end-refused, all-accepted}
 use borrow.Author.Needs.{needs}
 use Rattle.reading.proofs.file.read_rules.Statement.{statement}
 use Rattle.reading.proofs.file.read_rules.Tie as tie

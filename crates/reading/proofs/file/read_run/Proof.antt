@@ -16,8 +16,8 @@ use Rattle.papers.specs.Outcome.{Outcome, accepted}
 use Rattle.papers.specs.Field.{numbers, fewest, readField}
 use Rattle.papers.specs.Reading.{Run, readRun}
 use Rattle.papers.specs.Answers.{runAnswer}
-use Rattle.papers.proofs.Got.{Got, got-content, got-refused, pairs-length}
-use Rattle.papers.proofs.RunAnswers.{run-ended, run-refused, run-fault, run-next}
+use Rattle.papers.proofs.FieldGot.{Got, got-content, got-refused, pairs-length}
+use Rattle.papers.proofs.RunTurn.{run-ended, run-refused, run-fault, run-next}
 use Rattle.reading.proofs.file.read_run.Statement.{statement}
 use Rattle.reading.proofs.file.read_run.Tie as tie
 

@@ -11,7 +11,7 @@ use Rattle.literals.specs.Numbering.{judged}
 use Rattle.papers.specs.Program.{Program}
 use Rattle.papers.specs.Field.{sizeOf}
 use Rattle.papers.specs.Reading.{programIn}
-use Rattle.papers.proofs.FieldAnswers.{size-there}
+use Rattle.papers.proofs.FieldTests.{size-there}
 use Rattle.dual.specs.Table.{foldsOf}
 use Rattle.rows.specs.Rows.{clausesRow, clausesOf, entryRow}
 use Rattle.rows.specs.DualBytes.{literalIn, EntriesAt}

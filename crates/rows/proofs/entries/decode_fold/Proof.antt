@@ -8,8 +8,8 @@ use Prim.Native.Nat.{ℕ, _+_, _-_, _*_, _/_, _≤_}
 use lib.ListN.{length, take, drop, length-drop, length-set}
 use denote.Ref.{now}
 use Rattle.papers.specs.Field.{numbers, sizeOf}
-use Rattle.papers.proofs.FieldAnswers.{size-there}
-use Rattle.papers.proofs.Walking.{count-numbers}
+use Rattle.papers.proofs.FieldTests.{size-there}
+use Rattle.papers.proofs.NumbersWalked.{count-numbers}
 use Rattle.rows.specs.DualBytes.{listedIn}
 use Rattle.rows.proofs.EntryBytes.{listed-part}
 use Rattle.rows.proofs.FoldRows.{clause-laid}

@@ -9,7 +9,7 @@ use lib.ListN.{length, set, length-set}
 use denote.Ref.{now}
 use Rattle.papers.specs.Program.{Rule, ruleAt}
 use Rattle.papers.specs.Reading.{programIn}
-use Rattle.papers.proofs.FoldAnswers.{few-body}
+use Rattle.papers.proofs.FoldsWalked.{few-body}
 use Rattle.rows.proofs.RowLaws.{rule-row-length}
 use Rattle.rows.proofs.DecodedLaws.{body-counted, rule-laid}
 use Rattle.rows.proofs.rules.decode_rule.Statement.{statement}

@@ -9,7 +9,7 @@ use denote.Ref.{now}
 use Rattle.papers.specs.Program.{Program, allRules, ruleAt}
 use Rattle.papers.specs.Reading.{programIn}
 use Rattle.papers.proofs.FileFacts.{program-valid}
-use Rattle.papers.proofs.FoldAnswers.{rules-counted, few-folds}
+use Rattle.papers.proofs.FoldsWalked.{rules-counted, few-folds}
 use Rattle.rows.specs.Rows.{ruleRow, ruleRows, joined}
 use Rattle.rows.proofs.RowLaws.{rule-rows-count, rule-row-at, rule-rows-bound}
 use Rattle.rows.proofs.DecodedLaws.{DecodedTo, decoded-none, decoded-room, decoded-more, decoded-all}

@@ -5,13 +5,13 @@ use mathlib.Core.Bool.{Bool, true, false}
 use mathlib.Core.List.{List, [], _∷_}
 use Prim.Native.Nat.{ℕ, _+_}
 use lib.ListN.{getD}
-use Rattle.steps.specs.Scenarios.{Problem, minimals, stop}
+use Rattle.steps.specs.Explanations.{Problem, minimals, stop}
 use Rattle.steps.specs.declared.State.{State}
 use Rattle.steps.specs.declared.State.the-variants.{Ended, Full, Going}
 use Rattle.steps.specs.Continuing.{Record, fresh, Report, continue, stopFrom}
 use Rattle.steps.specs.Spoilt.{spoilt}
 use Rattle.steps.specs.Calls.{Call, refusal, report, calls}
-use Rattle.steps.specs.Computing.{computing}
+use Rattle.steps.specs.ComputingSearches.{computing}
 
 -- Two abducibles, and the scenarios that a list says are explanations, each of as many rounds as one more than its number.
 problem : List Bool → Problem

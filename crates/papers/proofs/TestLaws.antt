@@ -1,10 +1,11 @@
 -- Laws of tests joined by "and" and "or".
 -- Assumes nothing.
-use mathlib.Core.Path.{_≡_, refl}
-use mathlib.Core.Bool.{Bool, true, false, not}
+use mathlib.Core.Path.{_≡_, refl, sym, subst}
+use mathlib.Core.Bool.{Bool, true, false, not, true≢false}
 use mathlib.Core.Logic.{_⊎_, inl, inr, ⊎-elim}
-use lib.Dec.{T}
-use Rattle.model.specs.Tests.{_and_, _or_}
+use Prim.Native.Nat.{ℕ}
+use lib.Dec.{T, eqb, eqb→eq, eqb-refl, T-not, not-T}
+use Rattle.papers.specs.Tests.{_and_, _or_}
 
 -- ---- what holds
 
@@ -38,6 +39,15 @@ unfolding _or_
 either true b h = inl tt
 either false b h = inr h
 
+pub decided : (b : Bool) → T b ⊎ T (not b)
+decided true = inl tt
+decided false = inr tt
+
+pub neither : (a b : Bool) → (a or b) ≡ false → (a ≡ false) × (b ≡ false)
+unfolding _or_
+neither true b e = absurd (true≢false e)
+neither false b e = (refl, e)
+
 -- A test that holds wherever another does.
 pub or-mono : (a b a′ b′ : Bool) → (T a → T a′) → (T b → T b′) → T (a or b) → T (a′ or b′)
 or-mono a b a′ b′ f g h = ⊎-elim (λ x. either-left _ _ (f x)) (λ y. either-right _ _ (g y)) (either _ _ h)
@@ -53,6 +63,23 @@ is-true false h = absurd h
 pub is-false : (b : Bool) → (T b → ⊥) → b ≡ false
 is-false true h = absurd (h tt)
 is-false false h = refl
+
+pub passes : (b : Bool) → b ≡ true → T b
+passes b e = subst (λ (t : Bool). T t) (sym e) tt
+
+-- Two tests that pass together are equal.
+pub same-tests : (a b : Bool) → (T a → T b) → (T b → T a) → a ≡ b
+same-tests true true f g = refl
+same-tests true false f g = absurd (f tt)
+same-tests false true f g = absurd (g tt)
+same-tests false false f g = refl
+
+-- Numbers that a test tells apart.
+pub differs : (a b : ℕ) → T (not (eqb a b)) → a ≡ b → ⊥
+differs a b h e = T-not (eqb a b) h (subst (λ (x : ℕ). T (eqb a x)) e (eqb-refl a))
+
+pub not-equal : (a b : ℕ) → (a ≡ b → ⊥) → T (not (eqb a b))
+not-equal a b h = not-T (eqb a b) (λ t. h (eqb→eq a b t))
 
 -- ---- equations
 

@@ -1,12 +1,12 @@
--- `stepping::parts::part_of` meets its contract. The loop's invariant: the digits that are left decide.
+-- `stepping::digitwise::part_of` meets its contract. The loop's invariant: the digits that are left decide.
 -- Assumes nothing.
 use mathlib.Core.Path.{_≡_, sym, _∙_}
 use mathlib.Core.Logic.{⊎-elim, inl, inr}
 use borrow.Author.Needs.{needs}
-use Rattle.steps.specs.Scenarios.{partOf}
-use Rattle.stepping.proofs.Walking.{part-next, part-not, part-done}
-use Rattle.stepping.proofs.parts.part_of.Statement.{statement}
-use Rattle.stepping.proofs.parts.part_of.Tie as tie
+use Rattle.steps.specs.Explanations.{partOf}
+use Rattle.stepping.proofs.PartLoops.{part-next, part-not, part-done}
+use Rattle.stepping.proofs.digitwise.part_of.Statement.{statement}
+use Rattle.stepping.proofs.digitwise.part_of.Tie as tie
 
 abbrev Inv-loop : tie.InvT-loop
 Inv-loop k a b left₀ x₀ y₀ left x y = partOf k a b ≡ partOf left x y

@@ -7,22 +7,22 @@ use Prim.Native.Nat.{ℕ, zero, suc, _/_, _%_, _^_, _<_, _≤_}
 use native.Mathlib.Omega.{arith}
 use native.Mathlib.Nat.{div-div-eq-div-mul, pow-succ', div-one}
 use lib.Dec.{T, eqb, eqb→eq, eqb-refl}
-use Rattle.steps.specs.Scenarios.{partDigit, partOf}
-use Rattle.steps.proofs.Tests.{both, left, right, or-left, or-right, or-elim}
+use Rattle.papers.proofs.TestLaws.{both, left, right, either-left, either-right, either}
+use Rattle.steps.specs.Explanations.{partDigit, partOf}
 
 -- ---- digits
 
 pub digit-zero : (d e : ℕ) → d ≡ 0 → T (partDigit d e)
 unfolding partDigit
-digit-zero d e h = or-left (eqb d 0) (eqb d e) (subst (λ (x : ℕ). T (eqb d x)) h (eqb-refl d))
+digit-zero d e h = either-left (eqb d 0) (eqb d e) (subst (λ (x : ℕ). T (eqb d x)) h (eqb-refl d))
 
 pub digit-same : (d e : ℕ) → d ≡ e → T (partDigit d e)
 unfolding partDigit
-digit-same d e h = or-right (eqb d 0) (eqb d e) (subst (λ (x : ℕ). T (eqb d x)) h (eqb-refl d))
+digit-same d e h = either-right (eqb d 0) (eqb d e) (subst (λ (x : ℕ). T (eqb d x)) h (eqb-refl d))
 
 pub digit-elim {ℓ} : {X : Type ℓ} (d e : ℕ) → (d ≡ 0 → X) → (d ≡ e → X) → T (partDigit d e) → X
 unfolding partDigit
-digit-elim d e f g = or-elim (eqb d 0) (eqb d e) (λ h. f (eqb→eq d 0 h)) (λ h. g (eqb→eq d e h))
+digit-elim d e f g h = ⊎-elim (λ z. f (eqb→eq d 0 z)) (λ s. g (eqb→eq d e s)) (either (eqb d 0) (eqb d e) h)
 
 digit-le : (d e : ℕ) → T (partDigit d e) → d ≤ e
 digit-le d e = digit-elim d e (λ h. omega arith) (λ h. omega arith)

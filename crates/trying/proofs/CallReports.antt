@@ -6,7 +6,7 @@ use mathlib.Core.List.{List}
 use Prim.Native.Nat.{ℕ}
 use native.Mathlib.Omega.{arith}
 use Rattle.stepping.specs.declared.Progress.{Progress}
-use Rattle.steps.specs.Scenarios.{Problem, scenarios}
+use Rattle.steps.specs.Explanations.{Problem, scenarios}
 use Rattle.steps.specs.declared.Record.{Record}
 use Rattle.steps.specs.Continuing.{Work, steps, begun, reportOf, continue}
 use Rattle.steps.specs.Spoilt.{spoiltBy}

@@ -1,15 +1,14 @@
 -- What the answers tell: falsum has none, and what each says of the number asked about. Assumes nothing.
 use Prim.Native.Nat.{ℕ, _*_, _≤_, _<_}
 use mathlib.Core.Path.{_≡_, refl, sym}
-use mathlib.Core.Bool.{Bool, true, false, cond}
-use native.Mathlib.Omega.{arith}
+use mathlib.Core.Bool.{Bool, true, false, cond, true≢false}
 use borrow.Author.Tests.{ltb-true, ltb-false}
 use Rattle.literals.specs.Numbering.{atomNumber, explicitConjugate, literal, defaultNegation, falsum, listed}
 use Rattle.literals.specs.declared.Atom.{Atom}
 use Rattle.literals.specs.declared.Literal.{Literal}
 use Rattle.literals.specs.declared.Objective.{Objective}
-use Rattle.literals.proofs.Laws.{falsum-unlisted}
-use Rattle.conjugates.specs.Answers.{atomOf, conjugateOf, literalOf, defaultNegationOf}
+use Rattle.literals.proofs.NumberingLaws.{falsum-unlisted}
+use Rattle.conjugates.specs.Conjugates.{atomOf, conjugateOf, literalOf, defaultNegationOf}
 use Rattle.conjugates.specs.declared.AtomOf.the-variants as atom
 use Rattle.conjugates.specs.declared.Conjugate.the-variants as conjugate
 use Rattle.conjugates.specs.declared.LiteralOf.the-variants as literal-of
@@ -46,13 +45,13 @@ module _ {A : Type 0} (n o : ℕ) (answer none : A) where
       go false e = ltb-false o (2 * n) e
 
 atom-apart : {a : Atom} → atom.Is a ≡ atom.Nothing → ⊥
-atom-apart h = let z : _≡_ {A = ℕ} 0 1 = cc in omega arith
+atom-apart h = true≢false cc
 
 conjugate-apart : {p : Objective} → conjugate.Is p ≡ conjugate.Nothing → ⊥
-conjugate-apart h = let z : _≡_ {A = ℕ} 0 1 = cc in omega arith
+conjugate-apart h = true≢false cc
 
 literal-apart : {l : Literal} → literal-of.Is l ≡ literal-of.Nothing → ⊥
-literal-apart h = let z : _≡_ {A = ℕ} 0 1 = cc in omega arith
+literal-apart h = true≢false cc
 
 module _ (n o : ℕ) where
   pub atom-tells : {a : Atom} → atomOf n o ≡ atom.Is a → (o < 2 * n) × (a .0 ≡ atomNumber o)

@@ -2,7 +2,7 @@
 ghost use mathlib.Core.Path.{_≡_};
 ghost use Prim.Native.Nat.{_≤_};
 ghost use lib.ListN.{length, take, drop};
-ghost use Rattle.steps.specs.Scenarios.{partOf};
+ghost use Rattle.steps.specs.Explanations.{partOf};
 ghost use Rattle.steps.specs.Continuing.{containsOne};
 
 // Of k digits in base 3, lowest first: each of a's that is not zero is b's.

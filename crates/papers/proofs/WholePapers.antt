@@ -22,9 +22,9 @@ use Rattle.papers.proofs.FieldLaws.{field-tells, allowed-even}
 use Rattle.papers.proofs.NumberLaws.{length-numbers}
 use Rattle.papers.proofs.ContentLaws.{atoms-tell}
 use Rattle.papers.proofs.Accepted.{edition-read, atoms-read}
-use Rattle.papers.proofs.Answered.{Listed, Filed}
-use Rattle.papers.proofs.Walking.{count-numbers}
-use Rattle.papers.proofs.RulesAnswers.{listedIn}
+use Rattle.papers.proofs.ReadersGot.{Listed, Filed}
+use Rattle.papers.proofs.NumbersWalked.{count-numbers}
+use Rattle.papers.proofs.RulesToEnd.{listedIn}
 
 -- ---- the file
 

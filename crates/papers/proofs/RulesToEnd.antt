@@ -17,8 +17,8 @@ use Rattle.papers.specs.Reading.{firstRule, readRun, readEnd, ruleOf, pr
 use Rattle.papers.specs.Answers.{fieldsLength, contentsOf, fileAnswer}
 use Rattle.papers.proofs.ContentLaws.{numbers-back}
 use Rattle.papers.proofs.RunLaws.{RunTells, run-tells}
-use Rattle.papers.proofs.Walking.{count-numbers}
-use Rattle.papers.proofs.Answered.{Ran}
+use Rattle.papers.proofs.NumbersWalked.{count-numbers}
+use Rattle.papers.proofs.ReadersGot.{Ran}
 
 -- The abducibles' numbers, from place 12 on.
 abbrev pub listedIn : ℕ → List ℕ → List ℕ

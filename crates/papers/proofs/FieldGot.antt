@@ -1,7 +1,7 @@
 -- What `let .. else` finds of a field read: the content as a part of the paper, or the refusal.
 -- Assumes nothing.
 use mathlib.Core.Path.{_≡_, refl, sym, ap, subst, _∙_}
-use mathlib.Core.Bool.{Bool, true, false, _&&_, cond}
+use mathlib.Core.Bool.{Bool, true, false, _&&_, cond, true≢false}
 use mathlib.Core.List.{List}
 use Prim.Native.Nat.{ℕ, _+_, _-_, _*_, _%_, _≤_}
 use native.Mathlib.Omega.{arith}
@@ -32,7 +32,7 @@ module _ (paper : Paper) (tag : ℕ) (full : Bool) (place : ℕ) (bytes : List �
   pub got-content : (start end : ℕ) → got ≡ Content start end → Got paper tag full place bytes start end
   got-content start end e = by (readField paper tag full place bytes) refl (sym is ∙ e) where
     by : (o : Outcome (List ℕ)) → readField paper tag full place bytes ≡ o → fieldAnswer place o ≡ Content start end → Got paper tag full place bytes start end
-    by (refused r) q h = absurd (let z : _≡_ {A = ℕ} 0 1 = cc in omega arith)
+    by (refused r) q h = absurd (true≢false cc)
     by (accepted content) q h =
         let w = field-tells paper tag full place bytes content q in
         let s : place + 3 ≡ start = cc in
@@ -53,7 +53,7 @@ module _ (paper : Paper) (tag : ℕ) (full : Bool) (place : ℕ) (bytes : List �
   got-refused {r} e = by (readField paper tag full place bytes) (sym is ∙ e) where
     by : (o : Outcome (List ℕ)) → fieldAnswer place o ≡ Refused r → o ≡ refused r
     by (refused x) h = let z : x ≡ r = cc in ap refused z
-    by (accepted content) h = absurd (let z : _≡_ {A = ℕ} 0 1 = cc in omega arith)
+    by (accepted content) h = absurd (true≢false cc)
 
 -- ---- lengths
 
@@ -72,4 +72,4 @@ unfolding lengthAllowed
 pairs-length tag len n h = by (eqb (len % 2) 0) refl (rw (ne-eqb tag 1 n) at h) where
   by : (b : Bool) → eqb (len % 2) 0 ≡ b → cond b (leb (2 * fewest tag) len && leb len (2 * most tag)) false ≡ true → Pairs tag len
   by true q k = let t = both _ _ k in record { even = eqb-true (len % 2) 0 q; least = leb-true _ _ (t .0); greatest = leb-true _ _ (t .1) }
-  by false q k = absurd (let z : _≡_ {A = ℕ} 0 1 = cc in omega arith)
+  by false q k = absurd (true≢false cc)

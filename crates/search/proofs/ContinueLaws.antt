@@ -11,7 +11,7 @@ use Rattle.papers.specs.declared.Refusal.{Refusal}
 use Rattle.papers.specs.Outcome.{Outcome, accepted, refused}
 use Rattle.papers.specs.Reading.{Papers}
 use Rattle.papers.specs.Told.{tells}
-use Rattle.papers.proofs.PapersAnswers.{BothTold}
+use Rattle.papers.proofs.BothAccepted.{BothTold}
 use Rattle.dual.specs.Bytes.{dualOf, filled}
 use Rattle.dual_writer.proofs.BothPapers.{papersIn, scenarios-are}
 use Rattle.trying.specs.declared.Report.{Report}

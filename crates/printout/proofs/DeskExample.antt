@@ -6,13 +6,13 @@ use Rattle.papers.specs.Content.{editionFault, atomsFault, abduciblesFault, lit
 use Rattle.papers.specs.Field.{numbers, sizeOf, contentOf, fewest, most, lengthAllowed, fieldFault, readField}
 use Rattle.papers.specs.Outcome.{accepted}
 use Rattle.papers.specs.Reading.{readEdition, readAtoms, readAbducibles, readRun, readEnd, ruleOf, readRules, readFile, readSheet, Papers, readPapers}
-use Rattle.model.specs.Computing.{modelling}
-use Rattle.steps.specs.Computing.{computing}
+use Rattle.model.specs.ComputingModels.{modelling}
+use Rattle.steps.specs.ComputingSearches.{computing}
 use Rattle.decimals.specs.Decimal.{digits, decimal}
 use Rattle.decimals.specs.Text.{spaced, line}
 use Rattle.found_lines.specs.FoundLine.{sign, assumption, assumptions, foundLine}
 use Rattle.report.specs.Lines.{stateWord, headingLine, lastLine}
-use Rattle.printout.specs.Search.{lastState}
+use Rattle.printout.specs.DeskSearch.{lastState}
 use Rattle.printout.specs.Output.{foundLines, searchText, deskText}
 
 -- File `01 0001 01 02 0002 0002 03 0002 0001 04 0004 0000 0004 7F 0000`,

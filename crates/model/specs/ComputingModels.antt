@@ -3,7 +3,7 @@ use Rattle.literals.specs.Numbering.{otherOfPair}
 use Rattle.papers.specs.Program.{allRules}
 use Rattle.papers.specs.Content.{isAmong}
 use Rattle.dual.specs.Table.{foldsFrom, foldsOf, isEmpty, isFact, hasEntry, foldField, entry, entriesFrom, dual}
-use Rattle.model.specs.Tests.{_and_, _or_}
+use Rattle.papers.specs.Tests.{_and_, _or_}
 use Rattle.model.specs.Sets.{flagsFrom, empty, full, complement, sameFlag, sameSet}
 use Rattle.model.specs.Iteration.{iterate, firstStill}
 use Rattle.model.specs.Scenarios.{digitOf, trueAbducible, undefinedAbducible, falseAbducible, trueAbducibles, possibleAbducibles}

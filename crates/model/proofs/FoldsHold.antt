@@ -9,7 +9,7 @@ use borrow.Author.Tests.{eqb-true, eqb-false, eq-eqb, ne-eqb}
 use lib.Dec.{eqb}
 use lib.ListN.{length, getD}
 use Rattle.literals.specs.Numbering.{defaultConjugate, defaultNegated, objectiveNumber, judged}
-use Rattle.literals.proofs.Laws.{pair-sum, default-same-objective}
+use Rattle.literals.proofs.NumberingLaws.{pair-sum, default-same-objective}
 use Rattle.papers.specs.Program.{Rule, Program, allRules, noRule}
 use Rattle.papers.specs.Content.{isAmong}
 use Rattle.papers.specs.Valid.{All, All.none as nothing, All.each as each, ValidRule, Valid}
@@ -17,11 +17,11 @@ use Rattle.papers.proofs.Lists.{all-map, all-each}
 use Rattle.papers.proofs.RuleLaws.{Fits, all-append, rules-fit}
 use Rattle.dual.specs.Table.{Field, foldsFrom, foldsOf, isEmpty, isFact, hasEntry, dual}
 use Rattle.dual.proofs.Folds.{FoldIn, folds-of-tell}
-use Rattle.model.specs.Tests.{_and_, _or_}
+use Rattle.papers.specs.Tests.{_and_, _or_}
 use Rattle.model.specs.Sets.{Set, has, complement}
 use Rattle.model.specs.LeastSet.{literalHolds, bodyHolds, supported}
 use Rattle.model.specs.Falsity.{listedBy, someHolds, foldsHold}
-use Rattle.model.proofs.TestLaws.{not-and, not-or, or-true, true-and, false-and, false-or}
+use Rattle.papers.proofs.TestLaws.{not-and, not-or, or-true, true-and, false-and, false-or}
 use Rattle.model.proofs.SetLaws.{has-complement}
 use Rattle.model.proofs.Fields.{conjugates, listed-dual}
 

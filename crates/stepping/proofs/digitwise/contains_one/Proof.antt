@@ -1,13 +1,13 @@
--- `stepping::parts::contains_one` meets its contract. The loop's invariant: the entries from i on decide.
+-- `stepping::digitwise::contains_one` meets its contract. The loop's invariant: the entries from i on decide.
 -- Assumes nothing.
 use mathlib.Core.Path.{_≡_, sym, _∙_}
 use Prim.Native.Nat.{_-_}
 use borrow.Author.Needs.{needs}
 use lib.ListN.{take, drop}
 use Rattle.steps.specs.Continuing.{containsOne}
-use Rattle.stepping.proofs.Walking.{contains-here, contains-next, contains-none}
-use Rattle.stepping.proofs.parts.contains_one.Statement.{statement}
-use Rattle.stepping.proofs.parts.contains_one.Tie as tie
+use Rattle.stepping.proofs.PartLoops.{contains-here, contains-next, contains-none}
+use Rattle.stepping.proofs.digitwise.contains_one.Statement.{statement}
+use Rattle.stepping.proofs.digitwise.contains_one.Tie as tie
 
 abbrev Inv-loop : tie.InvT-loop
 Inv-loop k list first found s i₀ i = containsOne k (drop first (take found list)) s ≡ containsOne k (drop i (take found list)) s

@@ -8,7 +8,7 @@ use Rattle.papers.specs.Outcome.{accepted}
 use Rattle.papers.specs.Reading.{readFile}
 use Rattle.papers.specs.Encoding.{encodeFile}
 use Rattle.dual.specs.Table.{dual}
-use Rattle.dual.specs.Encoding.{encodeDual}
+use Rattle.dual.specs.TableEncoding.{encodeDual}
 use Rattle.literals.specs.Numbering.{falsum}
 use Rattle.model.specs.Model.{modelBytes, rounds, explains}
 use Rattle.steps.specs.Continuing.{fresh, continue}

@@ -9,7 +9,7 @@ use Rattle.model.specs.Sets.{Set, empty}
 use Rattle.model.specs.Iteration.{iterate}
 use Rattle.model.specs.Model.{modelBytes, rounds}
 use Rattle.model.specs.Falsity.{backedSet, greatest}
-use Rattle.model.specs.Computing.{falsity}
+use Rattle.model.specs.ComputingModels.{falsity}
 
 -- ---- a ring of two, p :- q; q :- p: it fails, because falsity is the greatest set
 

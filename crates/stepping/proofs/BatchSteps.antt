@@ -12,13 +12,12 @@ use Rattle.lanes.specs.Lanes.{inLane}
 use Rattle.stepping.specs.declared.Move.{Move as Told}
 use Rattle.stepping.specs.declared.Move.the-variants.{Stands, Tries, Writes}
 use Rattle.stepping.specs.declared.Progress.{Progress}
-use Rattle.steps.specs.Scenarios.{Problem}
+use Rattle.steps.specs.Explanations.{Problem}
 use Rattle.steps.specs.Continuing.{containsOne, newTo, work, step, steps}
 use Rattle.stepping.specs.Stepping.{workOf, Decided, Kept, LaneReady, LaneTried, InLanes, LanesTried}
 use Rattle.stepping.specs.Containing.{Without}
 use Rattle.steps.proofs.Steps.{step-stands, step-tries, step-writes}
 use Rattle.steps.proofs.Runs.{steps-zero, steps-last, steps-short}
-use Rattle.stepping.proofs.ContainingLaws.{and-is}
 
 -- ---- one scenario
 
@@ -87,7 +86,7 @@ new-in-lane : {P : Problem} {k p explained unlisted : ℕ} {rounds entries : Lis
     → InLanes P k p explained rounds → (l : ℕ) → l < 64 → newTo P entries (p + l) ≡ inLane l unlisted
 unfolding newTo
 new-in-lane {P} {k} {p} {explained} {entries = entries} w i l h =
-    rw (i .abducibles, ← i .explains l h) (and-is (inLane l explained) (not (containsOne k entries (p + l)))) ∙ sym (w .at l h)
+    rw (i .abducibles, ← i .explains l h) (sym (w .at l h))
 
 module _ {k total explained : ℕ} {rounds : List ℕ} where
   pub lanes-none : {s : Progress} {l : List ℕ} → Kept total s l → LanesTried k total explained rounds 0 s l s l

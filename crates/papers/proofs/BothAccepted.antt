@@ -18,7 +18,7 @@ use Rattle.papers.proofs.Checks.{through}
 use Rattle.papers.proofs.NumberLaws.{Bytes}
 use Rattle.papers.proofs.Accepted.{sheet-tells, sheet-accepted-valid}
 use Rattle.papers.proofs.FoldLaws.{FieldAt, at-content}
-use Rattle.papers.proofs.Answered.{papers-accepted}
+use Rattle.papers.proofs.ReadersGot.{papers-accepted}
 
 -- The program and the query, and where their bytes are.
 pub record BothTold (bytes sheet : List ℕ) (contents : Contents) (literals : ℕ) : Type 0 where

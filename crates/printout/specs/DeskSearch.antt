@@ -11,7 +11,7 @@ use Rattle.papers.specs.Reading.{Papers}
 use Rattle.papers.specs.Answers.{contentsOf}
 use Rattle.steps.specs.declared.State.{State}
 use Rattle.steps.specs.declared.State.the-variants.{Going, Full, Ended}
-use Rattle.steps.specs.Scenarios.{Problem, scenarios, minimals, stop, sumBelow}
+use Rattle.steps.specs.Explanations.{Problem, scenarios, minimals, stop, sumBelow}
 use Rattle.steps.specs.Continuing.{stateBy}
 use Rattle.trying.specs.Trying.{problemOf}
 use Rattle.printout.specs.declared.searching.Progress.{Progress}

@@ -7,7 +7,7 @@ use Rattle.papers.proofs.ToldLaws.{told-fixes}
 use Rattle.papers.specs.Told.{Told, tells, refusedBy, refusedAt, bareTold, refusalTold}
 use Rattle.dual_writer.specs.declared.DualWritten.{DualWritten}
 use Rattle.dual_writer.specs.declared.DualWritten.the-variants.{Length, Short, Refused}
-use Rattle.dual_writer.specs.Answers.{writtenTold}
+use Rattle.dual_writer.specs.WrittenDual.{writtenTold}
 
 -- Writing is refused by one number that names no paper.
 abbrev pub writtenFrom : Told ℕ → DualWritten

@@ -6,9 +6,9 @@ use Rattle.papers.specs.Content.{editionFault, atomsFault, abduciblesFault, lit
 use Rattle.papers.specs.Reading.{readEdition, readAtoms, readAbducibles, readRun, readEnd, ruleOf, readRules, readFile, readSheet, readPapers}
 use Rattle.papers.specs.Encoding.{encodeNumbers, encodeField, encodeRun, encodeFile, encodeSheet}
 use Rattle.dual.specs.Table.{foldsFrom, foldsOf, isEmpty, isFact, hasEntry, foldField, entry, entriesFrom, dual}
-use Rattle.dual.specs.Encoding.{encodeFields, encodeDual}
-use Rattle.model.specs.Computing.{modelling, falsity}
-use Rattle.steps.specs.Computing.{computing as searching}
+use Rattle.dual.specs.TableEncoding.{encodeFields, encodeDual}
+use Rattle.model.specs.ComputingModels.{modelling, falsity}
+use Rattle.steps.specs.ComputingSearches.{computing as searching}
 
 -- A file and its fields, as they are written,
 unfoldable encoding : Unit {0}

@@ -12,7 +12,7 @@ use Rattle.papers.specs.Told.{tells}
 use Rattle.dual.specs.Bytes.{dualOf}
 use Rattle.search.specs.declared.Continued.the-variants.{Reported}
 use Rattle.trying.specs.declared.Report.{Report as CallReport}
-use Rattle.steps.specs.Scenarios.{Problem, scenarios, minimals, stop, sumBelow, roundsFrom}
+use Rattle.steps.specs.Explanations.{Problem, scenarios, minimals, stop, sumBelow, roundsFrom}
 use Rattle.steps.specs.Continuing.{Report, reportOf, continue, stateBy}
 use Rattle.steps.specs.Spoilt.{spoilt}
 use Rattle.steps.specs.Calls.{answer, report}
@@ -24,7 +24,7 @@ use Rattle.steps.proofs.Canonical.{recordAt, listAt, workAt, listAt-found, list
 use Rattle.steps.proofs.Sound.{reached-unspoilt}
 use Rattle.steps.proofs.Calling.{answer-made}
 use Rattle.printout.specs.declared.searching.Progress.{Progress}
-use Rattle.printout.specs.Search.{problemFor, Stands, GoneOn}
+use Rattle.printout.specs.DeskSearch.{problemFor, Stands, GoneOn}
 use Rattle.printout.proofs.PaperLaws.{Small, problem-is}
 
 module _ (P : Problem) (list : List ℕ) (before : Progress) (stands : Stands P list before) where

@@ -1,6 +1,7 @@
 -- What `let .. else` finds of the other readers' answers: what was accepted, or the refusal.
 -- Assumes nothing.
 use mathlib.Core.Path.{_≡_, refl, sym, ap, _∙_}
+use mathlib.Core.Bool.{true≢false}
 use mathlib.Core.List.{List}
 use Prim.Native.Nat.{ℕ, _+_}
 use native.Mathlib.Omega.{arith}
@@ -27,12 +28,12 @@ module _ (o : Outcome ℕ) {got : NumberRead} (is : got ≡ numberAnswer o) wher
   number-accepted {v} e = by o (sym is ∙ e) where
     by : (x : Outcome ℕ) → numberAnswer x ≡ number.Number v → x ≡ accepted v
     by (accepted n) h = let z : n ≡ v = cc in ap accepted z
-    by (refused r) h = absurd (let z : _≡_ {A = ℕ} 0 1 = cc in omega arith)
+    by (refused r) h = absurd (true≢false cc)
 
   pub number-refused : {r : Refusal} → got ≡ number.Refused r → o ≡ refused r
   number-refused {r} e = by o (sym is ∙ e) where
     by : (x : Outcome ℕ) → numberAnswer x ≡ number.Refused r → x ≡ refused r
-    by (accepted n) h = absurd (let z : _≡_ {A = ℕ} 0 1 = cc in omega arith)
+    by (accepted n) h = absurd (true≢false cc)
     by (refused q) h = let z : q ≡ r = cc in ap refused z
 
 -- ---- a list, of which the answer tells how long it is
@@ -47,12 +48,12 @@ module _ (o : Outcome (List ℕ)) {got : NumberRead} (is : got ≡ countAnswer o
   count-accepted {k} e = by o refl (sym is ∙ e) where
     by : (x : Outcome (List ℕ)) → o ≡ x → countAnswer x ≡ number.Number k → Listed o k
     by (accepted l) q h = record { list = l; is = q; size = cc }
-    by (refused r) q h = absurd (let z : _≡_ {A = ℕ} 0 1 = cc in omega arith)
+    by (refused r) q h = absurd (true≢false cc)
 
   pub count-refused : {r : Refusal} → got ≡ number.Refused r → o ≡ refused r
   count-refused {r} e = by o (sym is ∙ e) where
     by : (x : Outcome (List ℕ)) → countAnswer x ≡ number.Refused r → x ≡ refused r
-    by (accepted n) h = absurd (let z : _≡_ {A = ℕ} 0 1 = cc in omega arith)
+    by (accepted n) h = absurd (true≢false cc)
     by (refused q) h = let z : q ≡ r = cc in ap refused z
 
 -- ---- a run
@@ -68,12 +69,12 @@ module _ (o : Outcome Run) {got : RunRead} (is : got ≡ runAnswer 0 o) where
   run-accepted {count} {next} e = by o refl (sym is ∙ e) where
     by : (x : Outcome Run) → o ≡ x → runAnswer 0 x ≡ run.Run count next → Ran o count next
     by (accepted r) q h = let z : 0 + length (r .contents) ≡ count = cc in record { run = r; is = q; size = omega arith; ends = cc }
-    by (refused r) q h = absurd (let z : _≡_ {A = ℕ} 0 1 = cc in omega arith)
+    by (refused r) q h = absurd (true≢false cc)
 
   pub run-not : {r : Refusal} → got ≡ run.Refused r → o ≡ refused r
   run-not {r} e = by o (sym is ∙ e) where
     by : (x : Outcome Run) → runAnswer 0 x ≡ run.Refused r → x ≡ refused r
-    by (accepted n) h = absurd (let z : _≡_ {A = ℕ} 0 1 = cc in omega arith)
+    by (accepted n) h = absurd (true≢false cc)
     by (refused q) h = let z : q ≡ r = cc in ap refused z
 
 -- ---- a file
@@ -88,12 +89,12 @@ module _ (o : Outcome Program) {got : FileRead} (is : got ≡ fileAnswer o) wher
   file-accepted {contents} e = by o refl (sym is ∙ e) where
     by : (x : Outcome Program) → o ≡ x → fileAnswer x ≡ file.Accepted contents → Filed o contents
     by (accepted p) q h = record { program = p; is = q; told = cc }
-    by (refused r) q h = absurd (let z : _≡_ {A = ℕ} 0 1 = cc in omega arith)
+    by (refused r) q h = absurd (true≢false cc)
 
   pub file-refused : {r : Refusal} → got ≡ file.Refused r → o ≡ refused r
   file-refused {r} e = by o (sym is ∙ e) where
     by : (x : Outcome Program) → fileAnswer x ≡ file.Refused r → x ≡ refused r
-    by (accepted n) h = absurd (let z : _≡_ {A = ℕ} 0 1 = cc in omega arith)
+    by (accepted n) h = absurd (true≢false cc)
     by (refused q) h = let z : q ≡ r = cc in ap refused z
 
 -- ---- both papers
@@ -109,10 +110,10 @@ module _ (o : Outcome Papers) {got : PapersRead} (is : got ≡ papersAnswer o) w
   papers-accepted {contents} {literals} e = by o refl (sym is ∙ e) where
     by : (x : Outcome Papers) → o ≡ x → papersAnswer x ≡ papers.Accepted contents literals → Paired o contents literals
     by (accepted p) q h = record { papers = p; is = q; told = cc; size = cc }
-    by (refused r) q h = absurd (let z : _≡_ {A = ℕ} 0 1 = cc in omega arith)
+    by (refused r) q h = absurd (true≢false cc)
 
   pub papers-refused : {r : Refusal} → got ≡ papers.Refused r → o ≡ refused r
   papers-refused {r} e = by o (sym is ∙ e) where
     by : (x : Outcome Papers) → papersAnswer x ≡ papers.Refused r → x ≡ refused r
-    by (accepted n) h = absurd (let z : _≡_ {A = ℕ} 0 1 = cc in omega arith)
+    by (accepted n) h = absurd (true≢false cc)
     by (refused q) h = let z : q ≡ r = cc in ap refused z
