@@ -12,7 +12,7 @@ ghost use Rattle.papers.specs.Places.{Walked};
 ghost use lib.ListN.{length};
 ghost use Rattle.dual.specs.Table.{hasEntry, isFact, entry, entryIfAny, dual};
 ghost use Rattle.dual.specs.TableEncoding.{encodeFields};
-ghost use Rattle.dual.specs.Bytes.{filled};
+ghost use Rattle.dual.specs.Bytes.{Fills};
 ghost use Rattle.dual.specs.Length.{rulesLength, dualLength};
 ghost use Rattle.dual_writer.specs.Chains.{ChainsOf};
 use crate::chains::next_fold;
@@ -33,10 +33,8 @@ fn rules_length(
     o: Objective,
 ) -> usize
     requires { ⌜ Walked (now file) contents (now places) × (ChainsOf (programIn (now file)) (now first) (now next) × (o .0 < 513)) ⌝ }
-    ensures { λ r. ⌜
-        (r ≡ cond (isFact (allRules (programIn (now (file .entry)))) (o .0)) 0 (5 + rulesLength (allRules (programIn (now (file .entry)))) (o .0)))
-        × (r < 65536)
-        ⌝ }
+    ensures { λ r. ⌜ (r ≡ cond (isFact (allRules (programIn (now (file .entry)))) (o .0)) 0 (5 + rulesLength (allRules (programIn (now (file .entry)))) (o .0)))
+        × (r < 65536) ⌝ }
 {
     let at = o.0;
     let start = first[at];
@@ -76,10 +74,8 @@ pub(crate) fn entry_length(
     o: Objective,
 ) -> usize
     requires { ⌜ Walked (now file) contents (now places) × (ChainsOf (programIn (now file)) (now first) (now next) × (o .0 < 513)) ⌝ }
-    ensures { λ r. ⌜
-        (r ≡ cond (hasEntry (programIn (now (file .entry))) (o .0)) (5 + rulesLength (allRules (programIn (now (file .entry)))) (o .0)) 0)
-        × (r < 65536)
-        ⌝ }
+    ensures { λ r. ⌜ (r ≡ cond (hasEntry (programIn (now (file .entry))) (o .0)) (5 + rulesLength (allRules (programIn (now (file .entry)))) (o .0)) 0)
+        × (r < 65536) ⌝ }
 {
     if is_abducible(file, contents, o) {
         return 0;
@@ -125,10 +121,7 @@ fn write_entry(
         × ((o .0 < 513)
         × (length (encodeFields (entry (programIn (now file)) (o .0))) ≤ length (now buffer))))
         ⌝ }
-    ensures { λ r. ⌜
-        (r ≡ length (encodeFields (entry (programIn (now (file .entry))) (o .0))))
-        × (now (buffer .exit) ≡ filled (encodeFields (entry (programIn (now (file .entry))) (o .0))) (now (buffer .entry)))
-        ⌝ }
+    ensures { λ r. ⌜ Fills (encodeFields (entry (programIn (now (file .entry))) (o .0))) (now (buffer .entry)) r (now (buffer .exit)) ⌝ }
 {
     let at = o.0;
     let number = first[at];
@@ -160,10 +153,7 @@ fn write_any_entry(
         × ((o .0 < 513)
         × (length (encodeFields (entryIfAny (programIn (now file)) (o .0))) ≤ length (now buffer))))
         ⌝ }
-    ensures { λ r. ⌜
-        (r ≡ length (encodeFields (entryIfAny (programIn (now (file .entry))) (o .0))))
-        × (now (buffer .exit) ≡ filled (encodeFields (entryIfAny (programIn (now (file .entry))) (o .0))) (now (buffer .entry)))
-        ⌝ }
+    ensures { λ r. ⌜ Fills (encodeFields (entryIfAny (programIn (now (file .entry))) (o .0))) (now (buffer .entry)) r (now (buffer .exit)) ⌝ }
 {
     if entry_length(file, contents, places, first, next, o) == 0 {
         return 0;
@@ -185,10 +175,7 @@ pub(crate) fn write_entries(
         × (ChainsOf (programIn (now file)) (now first) (now next)
         × (dualLength (programIn (now file)) ≤ length (now buffer)))
         ⌝ }
-    ensures { λ r. ⌜
-        (r ≡ length (encodeFields (dual (programIn (now (file .entry))))))
-        × (now (buffer .exit) ≡ filled (encodeFields (dual (programIn (now (file .entry))))) (now (buffer .entry)))
-        ⌝ }
+    ensures { λ r. ⌜ Fills (encodeFields (dual (programIn (now (file .entry))))) (now (buffer .entry)) r (now (buffer .exit)) ⌝ }
 {
     let judged = literals::judged(contents.atoms);
     let mut end: usize = 0;

@@ -33,10 +33,8 @@ pub fn write_accepted(
     allowed: bool,
 ) -> DualWritten
     requires { ⌜ Walked (now file) contents (now places) ⌝ }
-    ensures { λ r. ⌜
-        (writtenTold r ≡ dualTold (readFile (now (file .entry))) (length (now (dual .entry))))
-        × (now (dual .exit) ≡ cond allowed (dualAfter (readFile (now (file .entry))) (now (dual .entry))) (now (dual .entry)))
-        ⌝ }
+    ensures { λ r. ⌜ (writtenTold r ≡ dualTold (readFile (now (file .entry))) (length (now (dual .entry))))
+        × (now (dual .exit) ≡ cond allowed (dualAfter (readFile (now (file .entry))) (now (dual .entry))) (now (dual .entry))) ⌝ }
 {
     let chains = fold_chains(file, contents, places);
     let first = chains.first;
@@ -54,10 +52,8 @@ pub fn write_accepted(
 }
 
 pub fn write_dual(file: &[u8], dual: &mut [u8]) -> DualWritten
-    ensures { λ r. ⌜
-        (writtenTold r ≡ dualTold (readFile (now (file .entry))) (length (now (dual .entry))))
-        × (now (dual .exit) ≡ dualAfter (readFile (now (file .entry))) (now (dual .entry)))
-        ⌝ }
+    ensures { λ r. ⌜ (writtenTold r ≡ dualTold (readFile (now (file .entry))) (length (now (dual .entry))))
+        × (now (dual .exit) ≡ dualAfter (readFile (now (file .entry))) (now (dual .entry))) ⌝ }
 {
     let read = reading::read_file(file);
     let FileRead::Accepted(contents) = read else {

@@ -40,10 +40,9 @@ pub(crate) fn write_fold(buffer: &mut [u8], fold: Fold, body: &[u8]) -> usize
         × ((length (now body) ≤ 32)
         × (length (now body) ≡ 2 * length (numbers (now body)))))
         ⌝ }
-    ensures { λ r. ⌜
-        (r ≡ 5 + length (now (body .entry)))
-        × (now (buffer .exit) ≡ filled (encodeField 0x09 (encodeNumbers (fold .0 ∷ map defaultConjugate (numbers (now (body .entry)))))) (now (buffer .entry)))
-        ⌝ }
+    ensures { λ r. ⌜ (r ≡ 5 + length (now (body .entry)))
+        × (now (buffer .exit)
+        ≡ filled (encodeField 0x09 (encodeNumbers (fold .0 ∷ map defaultConjugate (numbers (now (body .entry)))))) (now (buffer .entry))) ⌝ }
 {
     let size = body.len();
     put_heading(buffer, 0x09, 2 + size, fold.0);
@@ -83,10 +82,8 @@ pub(crate) fn write_literal(
         × ((5 + 2 * length (foldsAt (now next) (start .0)) ≤ length (now buffer))
         × (o .0 < 65536))
         ⌝ }
-    ensures { λ r. ⌜
-        (r ≡ 5 + 2 * length (foldsAt (now (next .entry)) (start .0)))
-        × (now (buffer .exit) ≡ filled (encodeField 0x08 (encodeNumbers (o .0 ∷ foldsAt (now (next .entry)) (start .0)))) (now (buffer .entry)))
-        ⌝ }
+    ensures { λ r. ⌜ (r ≡ 5 + 2 * length (foldsAt (now (next .entry)) (start .0)))
+        × (now (buffer .exit) ≡ filled (encodeField 0x08 (encodeNumbers (o .0 ∷ foldsAt (now (next .entry)) (start .0)))) (now (buffer .entry))) ⌝ }
 {
     let count = fold_count(next, start);
     put_heading(buffer, 0x08, 2 + 2 * count, o.0);

@@ -1,13 +1,18 @@
 -- The eight words of an answer: 0 the refusal number (0: accepted), 1 the paper (0 file, 1 sheet), 2 the place, the others by the
 -- call. A word that has no meaning in an answer is 0.
+use mathlib.Core.Path.{_≡_}
 use mathlib.Core.Bool.{Bool, true, false}
 use mathlib.Core.List.{List, [], _∷_}
 use Prim.Native.Nat.{ℕ}
 use lib.ListN.{length}
 use Rattle.papers.specs.declared.Paper.{Paper}
 use Rattle.papers.specs.declared.Paper.the-variants.{File, Sheet}
-use Rattle.papers.specs.Told.{Told, tells, refusedBy, refusedAt}
-use Rattle.judging.specs.Judging.{Verdict}
+use Rattle.papers.specs.Outcome.{Outcome}
+use Rattle.papers.specs.Reading.{Papers, readPapers}
+use Rattle.papers.specs.Answers.{restOf}
+use Rattle.papers.specs.Told.{Told, tells, refusedBy, refusedAt, readTold, papersOf}
+use Rattle.judging.specs.Judging.{Verdict, judgeTold, dualJudged, modelJudged}
+use Rattle.search.specs.Searching.{continueTold, dualContinued, listContinued}
 use Rattle.steps.specs.declared.Record.{Record}
 use Rattle.trying.specs.declared.Report.{Report}
 use Rattle.steps.specs.declared.State.{State}
@@ -71,3 +76,21 @@ reportWords x = x .new .position ∷ x .new .found ∷ x .tried ∷ x .rounds �
 -- Continuing: words 3 and 4 are the record, the one given where the call is refused; 5 the scenarios tried, 6 their rounds, 7 the state.
 abbrev pub continuedWords : Record → Told Report → List ℕ
 continuedWords from = words reportWords (two (from .position) (from .found))
+
+-- ---- what each call leaves
+
+-- The words of the rest of a refused paper.
+abbrev pub restLeft : List ℕ → List ℕ → List ℕ
+restLeft file sheet = restWords (restOf (readPapers file sheet) file sheet) (readTold papersOf (readPapers file sheet))
+
+-- Judging: the two lent buffers and the words.
+abbrev pub JudgeLeaves : Outcome Papers → ℕ → List ℕ → List ℕ → List ℕ → List ℕ → List ℕ → Type 0
+JudgeLeaves read s dual model after valued out =
+    (out ≡ judgedWords (judgeTold read s (length dual) (length model)))
+    × ((after ≡ dualJudged read s dual model) × (valued ≡ modelJudged read s dual model))
+
+-- Continuing: the lent buffer, the lent list and the words.
+abbrev pub ContinueLeaves : Outcome Papers → ℕ → List ℕ → Record → List ℕ → List ℕ → List ℕ → List ℕ → Type 0
+ContinueLeaves read allowance dual from list after left out =
+    (out ≡ continuedWords from (continueTold read allowance (length dual) from list))
+    × ((after ≡ dualContinued read allowance dual from list) × (left ≡ listContinued read allowance (length dual) from list))

@@ -3,14 +3,13 @@
 ghost use mathlib.Core.Path.{_≡_};
 ghost use lib.ListN.{length};
 ghost use Rattle.papers.specs.Reading.{readFile, readPapers};
-ghost use Rattle.papers.specs.Answers.{restOf};
-ghost use Rattle.papers.specs.Told.{bareNumber, readTold, papersOf};
+ghost use Rattle.papers.specs.Told.{bareNumber};
 ghost use Rattle.dual_writer.specs.WrittenDual.{writtenTold, dualTold, dualAfter};
-ghost use Rattle.judging.specs.Judging.{judgedTold, judgeTold, dualJudged, modelJudged};
+ghost use Rattle.judging.specs.Judging.{judgedTold};
 ghost use Rattle.steps.specs.declared.Record.{Record};
-ghost use Rattle.search.specs.Searching.{continuedTold, continueTold, dualContinued, listContinued};
+ghost use Rattle.search.specs.Searching.{continuedTold};
 ghost use Rattle.finder_c.specs.AnswerWords.{flagNumber, paperNumber, stateNumber, recordOf, two, acceptedWords, bareWords, refusalWords};
-ghost use Rattle.finder_c.specs.AnswerWords.{restWords, dualWords, judgedWords, reportWords, continuedWords};
+ghost use Rattle.finder_c.specs.AnswerWords.{dualWords, judgedWords, reportWords, continuedWords, restLeft, JudgeLeaves, ContinueLeaves};
 use dual_writer::DualWritten;
 use judging::Judged;
 use papers::Bare;
@@ -49,11 +48,7 @@ fn refusal_words(refusal: Refusal, third: u64, fourth: u64) -> [u64; 8]
 
 #[no_mangle]
 pub extern "C" fn finder_rest<'a>(file: &'a [u8], sheet: &'a [u8], out: &mut [u64; 8])
-    ensures { λ _. ⌜
-        now (out .exit)
-        ≡ restWords (restOf (readPapers (now (file .entry)) (now (sheet .entry))) (now (file .entry)) (now (sheet .entry)))
-        (readTold papersOf (readPapers (now (file .entry)) (now (sheet .entry))))
-        ⌝ }
+    ensures { λ _. ⌜ now (out .exit) ≡ restLeft (now (file .entry)) (now (sheet .entry)) ⌝ }
 {
     let read = reading::read_papers(file, sheet);
     let PapersRead::Refused(refusal) = read else {
@@ -76,10 +71,8 @@ fn dual_words(written: DualWritten) -> [u64; 8]
 
 #[no_mangle]
 pub extern "C" fn finder_write_dual(file: &[u8], dual: &mut [u8], out: &mut [u64; 8])
-    ensures { λ _. ⌜
-        (now (out .exit) ≡ dualWords (dualTold (readFile (now (file .entry))) (length (now (dual .entry)))))
-        × (now (dual .exit) ≡ dualAfter (readFile (now (file .entry))) (now (dual .entry)))
-        ⌝ }
+    ensures { λ _. ⌜ (now (out .exit) ≡ dualWords (dualTold (readFile (now (file .entry))) (length (now (dual .entry)))))
+        × (now (dual .exit) ≡ dualAfter (readFile (now (file .entry))) (now (dual .entry))) ⌝ }
 {
     let written = dual_writer::write_dual(file, dual);
     *out = dual_words(written);
@@ -112,13 +105,8 @@ pub extern "C" fn finder_judge(
     model: &mut [u8],
     out: &mut [u64; 8],
 )
-    ensures { λ _. ⌜
-        (now (out .exit)
-        ≡ judgedWords
-        (judgeTold (readPapers (now (file .entry)) (now (sheet .entry))) scenario (length (now (dual .entry))) (length (now (model .entry)))))
-        × ((now (dual .exit) ≡ dualJudged (readPapers (now (file .entry)) (now (sheet .entry))) scenario (now (dual .entry)) (now (model .entry)))
-        × (now (model .exit) ≡ modelJudged (readPapers (now (file .entry)) (now (sheet .entry))) scenario (now (dual .entry)) (now (model .entry))))
-        ⌝ }
+    ensures { λ _. ⌜ JudgeLeaves (readPapers (now (file .entry)) (now (sheet .entry))) scenario (now (dual .entry)) (now (model .entry))
+        (now (dual .exit)) (now (model .exit)) (now (out .exit)) ⌝ }
 {
     let judged = judging::judge(file, sheet, scenario, dual, model);
     *out = judged_words(judged);
@@ -175,18 +163,8 @@ pub extern "C" fn finder_continue(
     allowance: u32,
     out: &mut [u64; 8],
 )
-    ensures { λ _. ⌜
-        (now (out .exit)
-        ≡ continuedWords (recordOf position found)
-        (continueTold (readPapers (now (file .entry)) (now (sheet .entry))) allowance (length (now (dual .entry))) (recordOf position found)
-        (now (list .entry))))
-        × ((now (dual .exit)
-        ≡ dualContinued (readPapers (now (file .entry)) (now (sheet .entry))) allowance (now (dual .entry)) (recordOf position found)
-        (now (list .entry)))
-        × (now (list .exit)
-        ≡ listContinued (readPapers (now (file .entry)) (now (sheet .entry))) allowance (length (now (dual .entry))) (recordOf position found)
-        (now (list .entry))))
-        ⌝ }
+    ensures { λ _. ⌜ ContinueLeaves (readPapers (now (file .entry)) (now (sheet .entry))) allowance (now (dual .entry)) (recordOf position found)
+        (now (list .entry)) (now (dual .exit)) (now (list .exit)) (now (out .exit)) ⌝ }
 {
     let from = Record { position, found };
     let continued = search::continue_search(file, sheet, dual, list, from, allowance);

@@ -36,10 +36,8 @@ fn put_assumption(buffer: &mut [u8], at: usize, atom: Atom, digit: u32) -> usize
 // Each assumed or ruled-out abducible of a scenario.
 fn put_assumptions(buffer: &mut [u8], at: usize, scenario: u32, abducibles: &[u8]) -> usize
     requires { ⌜ (at < 2 ^ 33) × (length (now abducibles) ≤ 32) ⌝ }
-    ensures { λ r. ⌜
-        Put at (spaced (assumptions (numbers (now (abducibles .entry))) scenario)) (now (buffer .entry)) r (now (buffer .exit))
-        × (r ≤ at + 352)
-        ⌝ }
+    ensures { λ r. ⌜ Put at (spaced (assumptions (numbers (now (abducibles .entry))) scenario)) (now (buffer .entry)) r (now (buffer .exit))
+        × (r ≤ at + 352) ⌝ }
 {
     let count = abducibles.len() / 2;
     let mut end = at;

@@ -1,4 +1,5 @@
 -- Judging: its refusals after those of the papers, what it tells in document 01's numbers, and what the lent buffers then hold.
+use mathlib.Core.Path.{_≡_}
 use mathlib.Core.Bool.{Bool, cond}
 use mathlib.Core.List.{List}
 use Prim.Native.Nat.{ℕ, _^_}
@@ -72,3 +73,9 @@ dualJudged (accepted q) s dual model = bufferBy (hindrance (q .program) s (lengt
 abbrev pub modelJudged : Outcome Papers → ℕ → List ℕ → List ℕ → List ℕ
 modelJudged (refused r) s dual model = model
 modelJudged (accepted q) s dual model = bufferBy (hindrance (q .program) s (length dual) (length model)) (modelBytes (q .program) s) model
+
+-- The answer and the two lent buffers together.
+abbrev pub Judges : Outcome Papers → ℕ → List ℕ → List ℕ → Judged → List ℕ → List ℕ → Type 0
+Judges read s dual model r after valued =
+    (judgedTold r ≡ judgeTold read s (length dual) (length model))
+    × ((after ≡ dualJudged read s dual model) × (valued ≡ modelJudged read s dual model))

@@ -1,8 +1,6 @@
 // Judging one scenario of two papers.
-ghost use mathlib.Core.Path.{_≡_};
-ghost use lib.ListN.{length};
 ghost use Rattle.papers.specs.Reading.{readPapers};
-ghost use Rattle.judging.specs.Judging.{judgedTold, judgeTold, dualJudged, modelJudged};
+ghost use Rattle.judging.specs.Judging.{Judges};
 use dual_writer::DualWritten;
 use model::scenario_count;
 use papers::PapersRead;
@@ -19,11 +17,8 @@ pub enum Judged {
 }
 
 pub fn judge(file: &[u8], sheet: &[u8], scenario: u32, dual: &mut [u8], model: &mut [u8]) -> Judged
-    ensures { λ r. ⌜
-        (judgedTold r ≡ judgeTold (readPapers (now (file .entry)) (now (sheet .entry))) scenario (length (now (dual .entry))) (length (now (model .entry))))
-        × ((now (dual .exit) ≡ dualJudged (readPapers (now (file .entry)) (now (sheet .entry))) scenario (now (dual .entry)) (now (model .entry)))
-        × (now (model .exit) ≡ modelJudged (readPapers (now (file .entry)) (now (sheet .entry))) scenario (now (dual .entry)) (now (model .entry))))
-        ⌝ }
+    ensures { λ r. ⌜ Judges (readPapers (now (file .entry)) (now (sheet .entry))) scenario (now (dual .entry)) (now (model .entry))
+        r (now (dual .exit)) (now (model .exit)) ⌝ }
 {
     let read = reading::read_papers(file, sheet);
     let PapersRead::Accepted(contents, literals) = read else {

@@ -4,6 +4,7 @@ use mathlib.Core.List.{List}
 use Prim.Native.Nat.{ℕ, _<_}
 use lib.ListN.{getD}
 use Rattle.arrays.specs.Staying.{StaysFrom}
+use Rattle.rows.specs.Visits.{Visits}
 
 -- ---- an order that was tested
 
@@ -31,3 +32,7 @@ own k = k
 -- Where the row starts that stands at a place of an order.
 abbrev pub startAt : List ℕ → List ℕ → ℕ → ℕ
 startAt order starts k = getD starts (getD order k 0) 0
+
+-- Visits to each of the rows, and the numbers past them as they were.
+abbrev pub Visited : ℕ → List ℕ → List ℕ → List ℕ → Type 0
+Visited count starts before after = Visits count starts after × StaysFrom count before after

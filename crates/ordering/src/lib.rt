@@ -8,9 +8,7 @@ ghost use mathlib.Core.Path.{_≡_};
 ghost use mathlib.Core.Bool.{true};
 ghost use Prim.Native.Nat.{ℕ, _≤_, _<_};
 ghost use lib.ListN.{length, getD};
-ghost use Rattle.arrays.specs.Staying.{StaysFrom};
-ghost use Rattle.rows.specs.Visits.{Visits};
-ghost use Rattle.ordering.specs.Orders.{Ordered, Written, own, startAt};
+ghost use Rattle.ordering.specs.Orders.{Ordered, Written, own, startAt, Visited};
 use arrays::get;
 use arrays::wide;
 use counting::sort_by_rank;
@@ -107,10 +105,7 @@ fn visit_rows(
         × ((count ≤ length (now ranks))
         × (count ≤ length (now visits)))))
         ⌝ }
-    ensures { λ r. ⌜
-        Visits count (now (starts .entry)) (now (visits .exit))
-        × StaysFrom count (now (visits .entry)) (now (visits .exit))
-        ⌝ }
+    ensures { λ r. ⌜ Visited count (now (starts .entry)) (now (visits .entry)) (now (visits .exit)) ⌝ }
 {
     invert(order, ranks, count);
     settle(order, ranks, count);
@@ -132,10 +127,7 @@ fn order_entries(
         × ((count ≤ length (now ranks))
         × (count ≤ length (now visits))))
         ⌝ }
-    ensures { λ r. ⌜
-        Visits count (now (starts .entry)) (now (visits .exit))
-        × StaysFrom count (now (visits .entry)) (now (visits .exit))
-        ⌝ }
+    ensures { λ r. ⌜ Visited count (now (starts .entry)) (now (visits .entry)) (now (visits .exit)) ⌝ }
 {
     let mut order = [0u16; 513];
     finishing_order(entries, starts, &mut order, count);
@@ -145,10 +137,7 @@ fn order_entries(
 // The rules by the ranks of their heads, those of one head in their own order.
 fn order_rules(rules: &[u16], starts: &[u16], ranks: &[u16], visits: &mut [u16], count: usize)
     requires { ⌜ (count ≤ 1280) × ((count ≤ length (now starts)) × (count ≤ length (now visits))) ⌝ }
-    ensures { λ r. ⌜
-        Visits count (now (starts .entry)) (now (visits .exit))
-        × StaysFrom count (now (visits .entry)) (now (visits .exit))
-        ⌝ }
+    ensures { λ r. ⌜ Visited count (now (starts .entry)) (now (visits .entry)) (now (visits .exit)) ⌝ }
 {
     let mut order = [0u16; 1280];
     let mut places = [0u16; 1280];
@@ -175,12 +164,8 @@ pub fn order_rows(
         × ((folds ≤ length (now «rule_starts»))
         × (folds ≤ length (now «rule_visits»))))))
         ⌝ }
-    ensures { λ r. ⌜
-        Visits judged (now («entry_starts» .entry)) (now («entry_visits» .exit))
-        × (StaysFrom judged (now («entry_visits» .entry)) (now («entry_visits» .exit))
-        × (Visits folds (now («rule_starts» .entry)) (now («rule_visits» .exit))
-        × StaysFrom folds (now («rule_visits» .entry)) (now («rule_visits» .exit))))
-        ⌝ }
+    ensures { λ r. ⌜ Visited judged (now («entry_starts» .entry)) (now («entry_visits» .entry)) (now («entry_visits» .exit))
+        × Visited folds (now («rule_starts» .entry)) (now («rule_visits» .entry)) (now («rule_visits» .exit)) ⌝ }
 {
     let mut ranks = [0u16; 513];
     order_entries(entries, entry_starts, &mut ranks, entry_visits, judged);

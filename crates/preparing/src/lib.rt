@@ -3,7 +3,7 @@ ghost use Prim.Native.Nat.{_≤_};
 ghost use lib.ListN.{length};
 ghost use Rattle.papers.specs.Reading.{programIn};
 ghost use Rattle.papers.specs.Places.{Walked};
-ghost use Rattle.rows.specs.Rows.{ruleRows, entryRows, Prepared};
+ghost use Rattle.rows.specs.Rows.{PreparedRules, PreparedEntries};
 ghost use Rattle.rows.specs.DualBytes.{DualStarts};
 use ordering::order_rows;
 use papers::Contents;
@@ -28,10 +28,8 @@ pub fn prepare(
         × ((1280 ≤ length (now «rule_visits»))
         × ((28000 ≤ length (now entries))
         × (513 ≤ length (now «entry_visits»)))))) ⌝ }
-    ensures { λ _. ⌜ Prepared 0 (ruleRows (programIn (now (file .entry)))) (now (rules .entry)) (now (rules .exit))
-        (now («rule_visits» .entry)) (now («rule_visits» .exit))
-        × Prepared 1 (entryRows (programIn (now (file .entry)))) (now (entries .entry)) (now (entries .exit))
-        (now («entry_visits» .entry)) (now («entry_visits» .exit)) ⌝ }
+    ensures { λ _. ⌜ PreparedRules (now (file .entry)) (now (rules .entry)) (now (rules .exit)) (now («rule_visits» .entry)) (now («rule_visits» .exit))
+        × PreparedEntries (now (file .entry)) (now (entries .entry)) (now (entries .exit)) (now («entry_visits» .entry)) (now («entry_visits» .exit)) ⌝ }
 {
     let judged = literals::judged(contents.atoms);
     let listed = contents.rules;

@@ -7,7 +7,7 @@ use lib.Dec.{eqb}
 use lib.ListN.{length, take}
 use Rattle.papers.specs.declared.Contents.{Contents}
 use Rattle.papers.specs.Outcome.{Outcome, accepted, refused}
-use Rattle.papers.specs.Reading.{Papers}
+use Rattle.papers.specs.Reading.{Papers, readPapers}
 use Rattle.papers.specs.Answers.{contentsOf}
 use Rattle.steps.specs.declared.State.{State}
 use Rattle.steps.specs.declared.State.the-variants.{Going, Full, Ended}
@@ -31,6 +31,9 @@ pub record AcceptedAs (read : Outcome Papers) (contents : Contents) : Type 0 whe
 unfoldable pub problemFor : Outcome Papers → Problem
 problemFor (accepted q) = problemOf q
 problemFor (refused r) = record { abducibles = 0; explains = λ s. false; rounds = λ s. 0 }
+
+abbrev pub problemOn : List ℕ → List ℕ → Problem
+problemOn file sheet = problemFor (readPapers file sheet)
 
 unfoldable pub isGoing : State → Bool
 isGoing Going = true

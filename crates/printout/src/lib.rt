@@ -23,7 +23,8 @@ fn write_found_lines(
     abducibles: &[u8],
 ) -> usize
     requires { ⌜ (at ≤ 512) × ((found ≤ length (now list)) × ((found ≤ 1024) × (length (now abducibles) ≤ 32))) ⌝ }
-    ensures { λ r. ⌜ Put at (foundLines (numbers (now (abducibles .entry))) (take found (now (list .entry)))) (now (out .entry)) r (now (out .exit)) × (r < 2 ^ 32) ⌝ }
+    ensures { λ r. ⌜ Put at (foundLines (numbers (now (abducibles .entry))) (take found (now (list .entry)))) (now (out .entry)) r (now (out .exit))
+        × (r < 2 ^ 32) ⌝ }
 {
     let mut end = at;
     let mut i: usize = 0;

@@ -3,7 +3,7 @@ ghost use mathlib.Core.Path.{_≡_};
 ghost use Prim.Native.Nat.{_≤_};
 ghost use lib.ListN.{length};
 ghost use Rattle.papers.specs.Reading.{readPapers};
-ghost use Rattle.printout.specs.DeskSearch.{Accepted, problemFor, isGoing, Stands, GoneOn, Finished};
+ghost use Rattle.printout.specs.DeskSearch.{Accepted, problemOn, isGoing, Stands, GoneOn, Finished};
 use search::Continued;
 use steps::Record;
 use steps::State;
@@ -18,8 +18,10 @@ pub(crate) struct Progress {
 
 // One call, with an allowance of 4,096.
 fn go_on(file: &[u8], sheet: &[u8], dual: &mut [u8], list: &mut [u32], before: Progress) -> Progress
-    requires { ⌜ Accepted (readPapers (now file) (now sheet)) × ((52488 ≤ length (now dual)) × Stands (problemFor (readPapers (now file) (now sheet))) (now list) before) ⌝ }
-    ensures { λ r. ⌜ Stands (problemFor (readPapers (now (file .entry)) (now (sheet .entry)))) (now (list .exit)) r × GoneOn (problemFor (readPapers (now (file .entry)) (now (sheet .entry)))) (length (now (list .entry))) before r ⌝ }
+    requires { ⌜ Accepted (readPapers (now file) (now sheet))
+        × ((52488 ≤ length (now dual)) × Stands (problemOn (now file) (now sheet)) (now list) before) ⌝ }
+    ensures { λ r. ⌜ Stands (problemOn (now (file .entry)) (now (sheet .entry))) (now (list .exit)) r
+        × GoneOn (problemOn (now (file .entry)) (now (sheet .entry))) (length (now (list .entry))) before r ⌝ }
 {
     let from = before.reached;
     let continued = search::continue_search(file, sheet, dual, list, from, 4096);
@@ -48,7 +50,8 @@ fn is_going(state: State) -> bool
 
 pub(crate) fn search_all(file: &[u8], sheet: &[u8], dual: &mut [u8], list: &mut [u32]) -> Progress
     requires { ⌜ Accepted (readPapers (now file) (now sheet)) × (52488 ≤ length (now dual)) ⌝ }
-    ensures { λ r. ⌜ Stands (problemFor (readPapers (now (file .entry)) (now (sheet .entry)))) (now (list .exit)) r × Finished (problemFor (readPapers (now (file .entry)) (now (sheet .entry)))) (length (now (list .entry))) r ⌝ }
+    ensures { λ r. ⌜ Stands (problemOn (now (file .entry)) (now (sheet .entry))) (now (list .exit)) r
+        × Finished (problemOn (now (file .entry)) (now (sheet .entry))) (length (now (list .entry))) r ⌝ }
 {
     let mut progress = Progress {
         reached: search::fresh(),

@@ -23,10 +23,8 @@ fn part_from(bytes: &[u8], place: usize) -> &[u8]
 // The rest of the refused paper from its place, and the empty part at the sheet's end where neither
 // is refused.
 pub fn rest_of_paper<'a>(file: &'a [u8], sheet: &'a [u8]) -> &'a [u8]
-    ensures { λ r. ⌜
-        (now r ≡ restOf (readPapers (now (file .entry)) (now (sheet .entry))) (now (file .entry)) (now (sheet .entry)))
-        × (r .ptr ≡ restStart (readPapers (now (file .entry)) (now (sheet .entry))) (file .entry) (sheet .entry))
-        ⌝ }
+    ensures { λ r. ⌜ (now r ≡ restOf (readPapers (now (file .entry)) (now (sheet .entry))) (now (file .entry)) (now (sheet .entry)))
+        × (r .ptr ≡ restStart (readPapers (now (file .entry)) (now (sheet .entry))) (file .entry) (sheet .entry)) ⌝ }
 {
     let read = read_papers(file, sheet);
     let PapersRead::Refused(refusal) = read else {

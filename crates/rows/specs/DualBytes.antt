@@ -1,8 +1,8 @@
 -- What stands in the bytes of a dual. p is a program.
 use mathlib.Core.Path.{_≡_}
 use mathlib.Core.Bool.{true, cond}
-use mathlib.Core.List.{List, [], _++_, map}
-use Prim.Native.Nat.{ℕ, _+_, _-_, _≤_, _<_}
+use mathlib.Core.List.{List, [], _∷_, _++_, map}
+use Prim.Native.Nat.{ℕ, _+_, _-_, _*_, _≤_, _<_}
 use lib.Dec.{eqb}
 use lib.ListN.{length, getD, take, drop}
 use Rattle.literals.specs.Numbering.{judged}
@@ -17,6 +17,10 @@ use Rattle.dual.specs.Bytes.{dualOf}
 -- The literals that the 09 field at the start of these bytes lists, after its fold number.
 unfoldable pub listedIn : List ℕ → List ℕ
 listedIn bytes = numbers (drop 2 (contentOf bytes))
+
+-- These as a clause, with the bytes that they take in front.
+abbrev pub clauseIn : List ℕ → List ℕ
+clauseIn bytes = 2 * length (listedIn bytes) ∷ listedIn bytes
 
 -- It stands there whole.
 pub record FoldStands (bytes : List ℕ) : Type 0 where

@@ -6,6 +6,7 @@ use Prim.Native.Nat.{ℕ, zero, suc, _+_, _*_, _≤_, _<_}
 use lib.ListN.{length, getD, take}
 use Rattle.literals.specs.Numbering.{defaultConjugate, judged}
 use Rattle.papers.specs.Program.{Rule, Program, allRules, ruleAt}
+use Rattle.papers.specs.Reading.{programIn}
 use Rattle.dual.specs.Table.{foldsOf, hasEntry}
 use Rattle.dual.specs.Bytes.{filled}
 use Rattle.arrays.specs.Staying.{StaysFrom}
@@ -76,3 +77,10 @@ pub record Prepared (by : ℕ) (rows : List (List ℕ)) (before after visited vi
   pub written : after ≡ filled (joined rows) before
   pub stand : Stand by rows after (take (length rows) visits)
   pub stays : StaysFrom (length rows) visited visits
+
+-- The rules of an accepted file ask by 2o, the entries of its dual by 2o + 1.
+abbrev pub PreparedRules : List ℕ → List ℕ → List ℕ → List ℕ → List ℕ → Type 0
+PreparedRules file = Prepared 0 (ruleRows (programIn file))
+
+abbrev pub PreparedEntries : List ℕ → List ℕ → List ℕ → List ℕ → List ℕ → Type 0
+PreparedEntries file = Prepared 1 (entryRows (programIn file))

@@ -1,6 +1,5 @@
 // The dual in its buffer as rows of numbers: they are read from its bytes.
 ghost use mathlib.Core.Path.{_≡_};
-ghost use mathlib.Core.List.{_∷_};
 ghost use Prim.Native.Nat.{_+_, _*_, _<_, _≤_};
 ghost use lib.ListN.{length, drop};
 ghost use Rattle.literals.specs.Numbering.{judged};
@@ -10,7 +9,7 @@ ghost use Rattle.dual.specs.Table.{foldsOf};
 ghost use Rattle.dual.specs.Bytes.{filled};
 ghost use Rattle.copying.specs.Laid.{laid};
 ghost use Rattle.rows.specs.Rows.{clausesRow, clausesOf, entryRow, entryRows, joined, Starts};
-ghost use Rattle.rows.specs.DualBytes.{listedIn, FoldStands, literalIn, FieldStands, DualStarts, EntriesAt, FoldsAt};
+ghost use Rattle.rows.specs.DualBytes.{listedIn, clauseIn, FoldStands, literalIn, FieldStands, DualStarts, EntriesAt, FoldsAt};
 use copying::copy_numbers;
 use literals::Objective;
 use numbered::number_at;
@@ -27,8 +26,7 @@ fn decode_fold(dual: &[u8], place: usize, numbers: &mut [u16], at: usize) -> Rea
     requires { ⌜ FoldStands (drop place (now dual)) × (at + (1 + length (listedIn (drop place (now dual)))) ≤ length (now numbers)) ⌝ }
     ensures { λ r. ⌜ (r .place ≡ place + 3 + sizeOf (drop place (now (dual .entry))))
         × ((r .at ≡ at + (1 + length (listedIn (drop place (now (dual .entry))))))
-        × (now (numbers .exit)
-        ≡ laid at (2 * length (listedIn (drop place (now (dual .entry)))) ∷ listedIn (drop place (now (dual .entry)))) (now (numbers .entry)))) ⌝ }
+        × (now (numbers .exit) ≡ laid at (clauseIn (drop place (now (dual .entry)))) (now (numbers .entry)))) ⌝ }
 {
     let start = place + 5;
     let next = place + 3 + number_at(dual, place + 1);

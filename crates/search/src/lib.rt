@@ -5,7 +5,7 @@ ghost use Rattle.papers.specs.declared.PapersRead.{PapersRead};
 ghost use Rattle.papers.specs.Reading.{readPapers};
 ghost use Rattle.papers.specs.Answers.{papersAnswer};
 ghost use Rattle.steps.specs.Continuing.{fresh};
-ghost use Rattle.search.specs.Searching.{continuedTold, continueTold, dualContinued, listContinued, Answers};
+ghost use Rattle.search.specs.Searching.{Answers};
 use dual_writer::DualWritten;
 use model::scenario_count;
 use papers::Contents;
@@ -82,12 +82,8 @@ pub fn continue_search(
     from: Record,
     allowance: u32,
 ) -> Continued
-    ensures { λ r. ⌜
-        (continuedTold r ≡ continueTold (readPapers (now (file .entry)) (now (sheet .entry))) allowance (length (now (dual .entry))) from (now (list .entry)))
-        × ((now (dual .exit) ≡ dualContinued (readPapers (now (file .entry)) (now (sheet .entry))) allowance (now (dual .entry)) from (now (list .entry)))
-        × (now (list .exit)
-        ≡ listContinued (readPapers (now (file .entry)) (now (sheet .entry))) allowance (length (now (dual .entry))) from (now (list .entry))))
-        ⌝ }
+    ensures { λ r. ⌜ Answers (readPapers (now (file .entry)) (now (sheet .entry))) allowance (now (dual .entry)) from (now (list .entry))
+        r (now (dual .exit)) (now (list .exit)) ⌝ }
 {
     let read = reading::read_papers(file, sheet);
     let PapersRead::Accepted(contents, literals) = read else {

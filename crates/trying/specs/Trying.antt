@@ -13,7 +13,7 @@ use Rattle.trying.specs.declared.Report.{Report as CallReport}
 use Rattle.stepping.specs.declared.Progress.{Progress}
 use Rattle.steps.specs.Explanations.{Problem}
 use Rattle.steps.specs.declared.Record.{Record}
-use Rattle.steps.specs.Continuing.{Report, stateBy}
+use Rattle.steps.specs.Continuing.{Report, stateBy, continue}
 use Rattle.steps.specs.Spoilt.{spoiltBy}
 use Rattle.stepping.specs.Stepping.{Kept}
 
@@ -59,3 +59,7 @@ pub record Passed (file : List ℕ) (contents : Contents) (places dual query : L
   pub prepared : PapersStand file contents places dual query
   pub scenarios : total ≡ 3 ^ length ((programIn file) .abducibles)
   pub unspoilt : spoiltBy total from list ≡ false
+
+-- What continuing leaves: the report and the list, by its definition.
+abbrev pub Continues : Problem → ℕ → Record → List ℕ → CallReport → List ℕ → Type 0
+Continues P allowance from list r left = (r ≡ toldReport (continue P allowance from list)) × (left ≡ (continue P allowance from list) .list)

@@ -2,9 +2,9 @@
 ghost use mathlib.Core.Path.{_≡_};
 ghost use Prim.Native.Nat.{_≤_};
 ghost use Rattle.papers.specs.Field.{numbers};
-ghost use Rattle.steps.specs.Continuing.{stateBy, continue};
+ghost use Rattle.steps.specs.Continuing.{stateBy};
 ghost use Rattle.stepping.specs.Stepping.{Batch, Tried};
-ghost use Rattle.trying.specs.Trying.{problemIn, toldReport, reportBy, Ready, Passed};
+ghost use Rattle.trying.specs.Trying.{problemIn, reportBy, Ready, Passed, Continues};
 use copying::copy_numbers;
 use papers::Contents;
 use preparing::prepare;
@@ -167,10 +167,8 @@ fn search_decoded(
     allowance: u32,
 ) -> Report
     requires { ⌜ Passed (now file) contents (now places) (now dual) (now query) total from (now list) ⌝ }
-    ensures { λ r. ⌜
-        (r ≡ toldReport (continue (problemIn (now (file .entry)) (numbers (now (query .entry)))) allowance from (now (list .entry))))
-        × (now (list .exit) ≡ (continue (problemIn (now (file .entry)) (numbers (now (query .entry)))) allowance from (now (list .entry))) .list)
-        ⌝ }
+    ensures { λ r. ⌜ Continues (problemIn (now (file .entry)) (numbers (now (query .entry)))) allowance from (now (list .entry))
+        r (now (list .exit)) ⌝ }
 {
     let mut rules = [0u16; 23040];
     let mut rule_visits = [0u16; 1280];
@@ -228,10 +226,8 @@ pub fn search_accepted(
     allowance: u32,
 ) -> Report
     requires { ⌜ Passed (now file) contents (now places) (now dual) (now query) total from (now list) ⌝ }
-    ensures { λ r. ⌜
-        (r ≡ toldReport (continue (problemIn (now (file .entry)) (numbers (now (query .entry)))) allowance from (now (list .entry))))
-        × (now (list .exit) ≡ (continue (problemIn (now (file .entry)) (numbers (now (query .entry)))) allowance from (now (list .entry))) .list)
-        ⌝ }
+    ensures { λ r. ⌜ Continues (problemIn (now (file .entry)) (numbers (now (query .entry)))) allowance from (now (list .entry))
+        r (now (list .exit)) ⌝ }
 {
     if allowance == 0 {
         let before = Progress {

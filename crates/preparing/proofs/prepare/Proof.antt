@@ -139,13 +139,13 @@ module _ (o : tie.After-order-rows) where
   rules-unmarked =
       let p = program begun in
       visits-unmarked (ruleRows p) _ (rules-done .decode-rules .last .1 .1 .1 .1 .0) rules-ordered (count begun) (rules-listed begun)
-      (omega (arith, rule-rows-bound p (begun .pre .1 .0 .valid))) (rules-done .decode-rules .ensures .1) (o .order-rows .ensures .1 .1 .0)
+      (omega (arith, rule-rows-bound p (begun .pre .1 .0 .valid))) (rules-done .decode-rules .ensures .1) (o .order-rows .ensures .1 .0)
 
   entries-unmarked : Unmarked (counts .judged .result) entries-ordered
   entries-unmarked =
       let p = program begun in
       visits-unmarked (entryRows p) _ (dual-done .decode-dual .last .1 .1 .1 .1 .0) entries-ordered (counts .judged .result) (entries-listed counts)
-      (omega (arith, entry-rows-bound p (begun .pre .1 .0 .valid))) (dual-done .decode-dual .ensures .1) (o .order-rows .ensures .0)
+      (omega (arith, entry-rows-bound p (begun .pre .1 .0 .valid))) (dual-done .decode-dual .ensures .1) (o .order-rows .ensures .0 .0)
 
 -- ---- where they are marked
 
@@ -153,14 +153,14 @@ mark-parts-requires : tie.Need-mark-parts-requires
 mark-parts-requires c κs =
     let o = c .before .before .before .before .before .before in
     let few-rules = few (begun o) in
-    let long = o .order-rows .ensures .1 .1 .1 .sized in
+    let long = o .order-rows .ensures .1 .1 .sized in
     (omega arith, (few-rules, (omega (arith, begun o .pre .1 .1 .1 .0), rules-unmarked o)))
 
 mark-parts-requires-2 : tie.Need-mark-parts-requires-2
 mark-parts-requires-2 c κs =
     let o = c .before .before .before .before .before .before .before .before .before .before .before in
     let few-entries = judged-few (counts o) in
-    let long = o .order-rows .ensures .1 .0 .sized in
+    let long = o .order-rows .ensures .0 .1 .sized in
     (omega arith, (omega arith, (omega (arith, begun o .pre .1 .1 .1 .1 .1), entries-unmarked o)))
 
 same-length : tie.Need-same-length
@@ -189,12 +189,12 @@ returns c =
       rows-prepared 0 (ruleRows (program s)) (now (s .args .rules)) (r .decode-rules .last .1 .1 .1 .0) (now (s .args .rule-visits))
           (rules-ordered o) (m .mark-parts .last .1 .1 .0) (rules-room s) (omega (arith, few s, rules-listed s, s .pre .1 .1 .1 .0)) _
           (r .decode-rules .last .1 .1 .1 .1 .0) (r .decode-rules .ensures .0) (r .decode-rules .ensures .1) (count s) (rules-listed s)
-          (o .order-rows .ensures .1 .1 .0) (o .order-rows .ensures .1 .1 .1) (m .mark-parts .ensures .0) (m .mark-parts .ensures .1),
+          (o .order-rows .ensures .1 .0) (o .order-rows .ensures .1 .1) (m .mark-parts .ensures .0) (m .mark-parts .ensures .1),
       rows-prepared 1 (entryRows (program s)) (now (s .args .entries)) (d .decode-dual .last .1 .1 .1 .0) (now (s .args .entry-visits))
           (entries-ordered o) (e .mark-parts2 .last .1 .1 .0) (entries-room s)
           (omega (arith, judged-few j, entries-listed j, s .pre .1 .1 .1 .1 .1)) _
           (d .decode-dual .last .1 .1 .1 .1 .0) (d .decode-dual .ensures .0) (d .decode-dual .ensures .1) (j .judged .result) (entries-listed j)
-          (o .order-rows .ensures .0) (o .order-rows .ensures .1 .0) (e .mark-parts2 .ensures .0) (e .mark-parts2 .ensures .1),
+          (o .order-rows .ensures .0 .0) (o .order-rows .ensures .0 .1) (e .mark-parts2 .ensures .0) (e .mark-parts2 .ensures .1),
     )
 
 pub prepare-spec : {M : Type 1} → statement M
