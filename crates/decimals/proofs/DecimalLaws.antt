@@ -52,7 +52,8 @@ decimal-length (suc k) n h = elim (decLt n 10) [
   | yes small ↦ rw (decimal-one n small) (omega arith)
   | no large ↦
       let ih = decimal-length k (n / 10) (omega arith) in
-      let l : length (decimal n) ≡ length (decimal (n / 10)) + 1 = ap length (decimal-more n (omega arith)) ∙ length-append (decimal (n / 10)) ((48 + n % 10) ∷ []) in
+      let more = ap length (decimal-more n (omega arith)) in
+      let l = length-append (decimal (n / 10)) ((48 + n % 10) ∷ []) in
       omega arith
 ]
 

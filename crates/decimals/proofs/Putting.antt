@@ -78,7 +78,8 @@ left-byte i text h put l = left-after (getD text i 0 ∷ []) (drop (i + 1) text)
 pub put-two : {at : ℕ} {buffer : List ℕ} {next : ℕ} {between : List ℕ} {end : ℕ} {after : List ℕ} (x y : List ℕ)
     → Put at x buffer next between → Put next y between end after → Put at (x ++ y) buffer end after
 put-two {at = at} {buffer = buffer} x y p q =
-    left-none (left-after y [] q (left-after x (y ++ []) p (subst (λ (l : List ℕ). Left at (x ++ y) buffer at (x ++ l) buffer) (sym (append-nil y)) (left-all at (x ++ y) buffer))))
+    let whole = subst (λ (l : List ℕ). Left at (x ++ y) buffer at (x ++ l) buffer) (sym (append-nil y)) (left-all at (x ++ y) buffer) in
+    left-none (left-after y [] q (left-after x (y ++ []) p whole))
 
 -- ---- items
 
@@ -105,4 +106,17 @@ spaced-append (item ∷ a) b =
 
 -- A line that is due, by its first item and the further ones.
 pub left-line : (at : ℕ) (first : List ℕ) (more : List (List ℕ)) (buffer : List ℕ) → Left at (line first more) buffer at (first ++ further more) buffer
-left-line at first more buffer = let l = left-all at (line first more) buffer in subst (λ (x : List ℕ). Left at (line first more) buffer at x buffer) (line-further first more) l
+left-line at first more buffer =
+    subst (λ (x : List ℕ). Left at (line first more) buffer at x buffer) (line-further first more) (left-all at (line first more) buffer)
+
+-- A line in three pieces: its first item and a number, what follows them, and the newline.
+pub put-line : {at : ℕ} {buffer : List ℕ} {next : ℕ} {between : List ℕ} {last : ℕ} {ended : List ℕ} {end : ℕ} {after : List ℕ}
+    (first number : List ℕ) (items : List (List ℕ)) → Put at (first ++ 32 ∷ number) buffer next between
+    → Put next (spaced items) between last ended → Put last (10 ∷ []) ended end after → Put at (line first (number ∷ items)) buffer end after
+unfolding further
+put-line {at = at} {buffer = buffer} first number items p q r =
+    let whole = line first (number ∷ items) in
+    let apart = sym (append-assoc first (32 ∷ number) (further items)) in
+    let l = subst (λ (x : List ℕ). Left at whole buffer at x buffer) apart (left-line at first (number ∷ items) buffer) in
+    let m = left-after (first ++ 32 ∷ number) (further items) p l in
+    left-none (left-after (10 ∷ []) [] r (left-after (spaced items) (10 ∷ []) q (rw (← spaced-further items) at m)))

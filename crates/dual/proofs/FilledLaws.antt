@@ -31,9 +31,15 @@ filled-number bytes buffer at v e h =
     ∙ ap (λ (x : List ℕ). filled x buffer) (append-assoc bytes (v / 256 ∷ []) (v % 256 ∷ []))
 
 -- One part more: the rest of the buffer is filled from its start.
-pub filled-part : (bytes more buffer : List ℕ) → take (length bytes) (filled bytes buffer) ++ filled more (drop (length bytes) (filled bytes buffer)) ≡ filled (bytes ++ more) buffer
+pub filled-part : (bytes more buffer : List ℕ)
+    → take (length bytes) (filled bytes buffer) ++ filled more (drop (length bytes) (filled bytes buffer)) ≡ filled (bytes ++ more) buffer
 filled-part bytes more buffer =
-    rw (take-append-seam bytes (drop (length bytes) buffer), drop-append-seam bytes (drop (length bytes) buffer), drop-drop (length more) (length bytes) buffer, length-append bytes more)
+    rw (
+      take-append-seam bytes (drop (length bytes) buffer),
+      drop-append-seam bytes (drop (length bytes) buffer),
+      drop-drop (length more) (length bytes) buffer,
+      length-append bytes more,
+    )
     (sym (append-assoc bytes more (drop (length bytes + length more) buffer)))
 
 -- Five bytes, one by one.
@@ -53,7 +59,12 @@ pub filled-again : (bytes more buffer : List ℕ) → length bytes ≤ length bu
     → filled (take (length bytes) (filled bytes buffer) ++ more) (filled bytes buffer) ≡ filled (bytes ++ more) buffer
 filled-again bytes more buffer h =
     let l : length (bytes ++ more) ≡ length bytes + length more = length-append bytes more in
-    rw (take-append-seam bytes (drop (length bytes) buffer), l, drop-append-add bytes (drop (length bytes) buffer) (length more), drop-drop (length more) (length bytes) buffer)
+    rw (
+      take-append-seam bytes (drop (length bytes) buffer),
+      l,
+      drop-append-add bytes (drop (length bytes) buffer) (length more),
+      drop-drop (length more) (length bytes) buffer,
+    )
 
 pub filled-whole : (n : ℕ) (buffer : List ℕ) → n ≤ length buffer → filled (take n buffer ++ []) buffer ≡ buffer
 filled-whole n buffer h =
@@ -80,11 +91,13 @@ module _ (n : ℕ) (start buffer numbers : List ℕ) (w : Numbered n start buffe
       → Numbered n start (set (set buffer at (v / 256)) (at + 1) (v % 256)) (numbers ++ v ∷ [])
   numbered-more at v e h =
       let l = prefix-length in
+      let apart = append-assoc (take n start) (encodeNumbers numbers) (encodeNumbers (v ∷ [])) in
+      let together = ap (λ (x : List ℕ). take n start ++ x) (sym (numbers-more numbers v)) in
       record {
         is =
             ap (λ (b : List ℕ). set (set b at (v / 256)) (at + 1) (v % 256)) (w .is)
             ∙ filled-number (take n start ++ encodeNumbers numbers) start at v (omega arith) h
-            ∙ ap (λ (x : List ℕ). filled x start) (append-assoc (take n start) (encodeNumbers numbers) (encodeNumbers (v ∷ [])) ∙ ap (λ (x : List ℕ). take n start ++ x) (sym (numbers-more numbers v)));
+            ∙ ap (λ (x : List ℕ). filled x start) (apart ∙ together);
       }
 
 -- A part to the end, put back.

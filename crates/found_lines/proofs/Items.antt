@@ -37,7 +37,8 @@ module _ (content : List ℕ) (i rest : ℕ) where
   items-none h = rw (no-number content i h)
 
   pub items-next : (atom : ℕ) → i < length content / 2 → atom ≡ number (getD content (2 * i) 0) (getD content (2 * i + 1) 0)
-      → spaced (assumptions (numbers (drop (2 * i) content)) rest) ≡ spaced (assumption atom (rest % 3)) ++ spaced (assumptions (numbers (drop (2 * (i + 1)) content)) (rest / 3))
+      → spaced (assumptions (numbers (drop (2 * i) content)) rest)
+      ≡ spaced (assumption atom (rest % 3)) ++ spaced (assumptions (numbers (drop (2 * (i + 1)) content)) (rest / 3))
   unfolding assumptions
   items-next atom h e =
       let n : numbers (drop (2 * i) content) ≡ atom ∷ numbers (drop (2 * (i + 1)) content) = read-number content i h e in

@@ -31,7 +31,9 @@ items-length [] scenario nothing = omega arith
 items-length (atom ∷ more) scenario (each h rest) =
     let one = item-length atom (scenario % 3) h in
     let ih = items-length more (scenario / 3) rest in
-    let l = ap length (spaced-append (assumption atom (scenario % 3)) (assumptions more (scenario / 3))) ∙ length-append (spaced (assumption atom (scenario % 3))) (spaced (assumptions more (scenario / 3))) in
+    let first = assumption atom (scenario % 3) in
+    let others = assumptions more (scenario / 3) in
+    let l = ap length (spaced-append first others) ∙ length-append (spaced first) (spaced others) in
     omega arith
 
 -- A scenario of 8 digits, at most 16 abducibles of 3 digits: 95 bytes.

@@ -4,11 +4,10 @@ use mathlib.Core.List.{List, [], _∷_, _++_}
 use Prim.Native.Nat.{ℕ, _/_, _%_}
 use lib.Dec.{eqb}
 use Rattle.decimals.specs.Decimal.{decimal}
-use Rattle.decimals.specs.Text.{line}
+use Rattle.decimals.specs.Text.{ascii, line}
 
--- found
 abbrev pub foundWord : List ℕ
-foundWord = 102 ∷ 111 ∷ 117 ∷ 110 ∷ 100 ∷ []
+foundWord = ascii "found"
 
 -- `+` for an assumed abducible, digit 1, and `-` for a ruled-out one.
 unfoldable pub sign : ℕ → ℕ

@@ -22,13 +22,18 @@ unfoldable scenarios : Unit {0}
 unfolding digitOf trueAbducible undefinedAbducible falseAbducible trueAbducibles possibleAbducibles
 scenarios = tt
 
--- the rounds and the bytes,
+-- the rounds,
+unfoldable sequence : Unit {0}
+unfolding conjugateIn sameInterpretation trueReduct possibleReduct trueSet possibleSet falseSet successor start interpretationAt rounds
+sequence = tt
+
+-- the model, its bytes and its verdict,
 unfoldable pub modelling : Unit {0}
-unfolding sets scenarios otherOfPair allRules conjugateIn sameInterpretation trueReduct possibleReduct trueSet possibleSet falseSet successor start interpretationAt rounds model valueByte valueBytes modelBytes queryLiteralHolds queryHolds explainsBy explains
+unfolding sets scenarios sequence otherOfPair allRules model valueByte valueBytes modelBytes queryLiteralHolds queryHolds explainsBy explains
 modelling = tt
 
 -- the dual's fields,
-unfoldable fields : Unit {0}
+unfoldable pub fields : Unit {0}
 unfolding otherOfPair isAmong allRules foldsFrom foldsOf isEmpty isFact hasEntry foldField entry entriesFrom dual
 fields = tt
 

@@ -22,3 +22,5 @@ pub mod Answers
 pub mod Told
 -- Where the rules stand in a file, by fold number.
 pub mod Places
+-- What has to unfold for a paper to be computed.
+pub mod ComputingPapers

@@ -2,14 +2,13 @@
 use mathlib.Core.Path.{_≡_, refl, ap, _∙_}
 use mathlib.Core.List.{List, [], _∷_}
 use Prim.Native.Nat.{ℕ}
-use Rattle.papers.specs.Content.{editionFault, atomsFault, abduciblesFault, literalsFault, isAmong, ruleFault, bodyFault}
-use Rattle.papers.specs.Field.{numbers, sizeOf, contentOf, fewest, most, lengthAllowed, fieldFault, readField}
 use Rattle.papers.specs.Outcome.{accepted}
-use Rattle.papers.specs.Reading.{readEdition, readAtoms, readAbducibles, readRun, readEnd, ruleOf, readRules, readFile, readSheet, Papers, readPapers}
+use Rattle.papers.specs.Reading.{Papers, readPapers}
+use Rattle.papers.specs.ComputingPapers.{reading}
 use Rattle.model.specs.ComputingModels.{modelling}
 use Rattle.steps.specs.ComputingSearches.{computing}
 use Rattle.decimals.specs.Decimal.{digits, decimal}
-use Rattle.decimals.specs.Text.{spaced, line}
+use Rattle.decimals.specs.Text.{ascii, spaced, line}
 use Rattle.found_lines.specs.FoundLine.{sign, assumption, assumptions, foundLine}
 use Rattle.report.specs.Lines.{stateWord, headingLine, lastLine}
 use Rattle.printout.specs.DeskSearch.{lastState}
@@ -31,12 +30,14 @@ papers = record {
 }
 
 reads : readPapers causes sheet ≡ accepted papers
-unfolding causes sheet readPapers readFile readEdition readAtoms readAbducibles readRun readEnd ruleOf readRules readSheet readField fieldFault lengthAllowed fewest most sizeOf contentOf numbers editionFault atomsFault abduciblesFault literalsFault isAmong ruleFault bodyFault
+unfolding causes sheet reading
 reads = refl
 
--- atoms 2 abducibles 1 scenarios 3
--- found 1 1+
--- ended tried 3 rounds 3
-pub printed : deskText (readPapers causes sheet) ≡ 97 ∷ 116 ∷ 111 ∷ 109 ∷ 115 ∷ 32 ∷ 50 ∷ 32 ∷ 97 ∷ 98 ∷ 100 ∷ 117 ∷ 99 ∷ 105 ∷ 98 ∷ 108 ∷ 101 ∷ 115 ∷ 32 ∷ 49 ∷ 32 ∷ 115 ∷ 99 ∷ 101 ∷ 110 ∷ 97 ∷ 114 ∷ 105 ∷ 111 ∷ 115 ∷ 32 ∷ 51 ∷ 10 ∷ 102 ∷ 111 ∷ 117 ∷ 110 ∷ 100 ∷ 32 ∷ 49 ∷ 32 ∷ 49 ∷ 43 ∷ 10 ∷ 101 ∷ 110 ∷ 100 ∷ 101 ∷ 100 ∷ 32 ∷ 116 ∷ 114 ∷ 105 ∷ 101 ∷ 100 ∷ 32 ∷ 51 ∷ 32 ∷ 114 ∷ 111 ∷ 117 ∷ 110 ∷ 100 ∷ 115 ∷ 32 ∷ 51 ∷ 10 ∷ []
-unfolding deskText searchText foundLines lastState headingLine foundLine lastLine stateWord assumptions assumption sign line spaced decimal digits modelling computing
+-- What has to unfold for the text.
+unfoldable printing : Unit {0}
+unfolding deskText searchText foundLines lastState headingLine foundLine lastLine stateWord assumptions assumption sign line spaced decimal digits
+printing = tt
+
+pub printed : deskText (readPapers causes sheet) ≡ ascii "atoms 2 abducibles 1 scenarios 3\nfound 1 1+\nended tried 3 rounds 3\n"
+unfolding printing modelling computing
 printed = ap deskText reads ∙ refl

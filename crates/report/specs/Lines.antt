@@ -7,44 +7,36 @@ use Rattle.papers.specs.declared.Refusal.{Refusal}
 use Rattle.steps.specs.declared.State.{State}
 use Rattle.steps.specs.declared.State.the-variants.{Going, Full, Ended}
 use Rattle.decimals.specs.Decimal.{decimal}
-use Rattle.decimals.specs.Text.{line}
+use Rattle.decimals.specs.Text.{ascii, line}
 
 -- ---- the words
 
--- atoms
 abbrev pub atomsWord : List ℕ
-atomsWord = 97 ∷ 116 ∷ 111 ∷ 109 ∷ 115 ∷ []
+atomsWord = ascii "atoms"
 
--- abducibles
 abbrev pub abduciblesWord : List ℕ
-abduciblesWord = 97 ∷ 98 ∷ 100 ∷ 117 ∷ 99 ∷ 105 ∷ 98 ∷ 108 ∷ 101 ∷ 115 ∷ []
+abduciblesWord = ascii "abducibles"
 
--- scenarios
 abbrev pub scenariosWord : List ℕ
-scenariosWord = 115 ∷ 99 ∷ 101 ∷ 110 ∷ 97 ∷ 114 ∷ 105 ∷ 111 ∷ 115 ∷ []
+scenariosWord = ascii "scenarios"
 
--- tried
 abbrev pub triedWord : List ℕ
-triedWord = 116 ∷ 114 ∷ 105 ∷ 101 ∷ 100 ∷ []
+triedWord = ascii "tried"
 
--- rounds
 abbrev pub roundsWord : List ℕ
-roundsWord = 114 ∷ 111 ∷ 117 ∷ 110 ∷ 100 ∷ 115 ∷ []
+roundsWord = ascii "rounds"
 
--- refused
 abbrev pub refusedWord : List ℕ
-refusedWord = 114 ∷ 101 ∷ 102 ∷ 117 ∷ 115 ∷ 101 ∷ 100 ∷ []
+refusedWord = ascii "refused"
 
--- going, full, ended
 unfoldable pub stateWord : State → List ℕ
-stateWord Going = 103 ∷ 111 ∷ 105 ∷ 110 ∷ 103 ∷ []
-stateWord Full = 102 ∷ 117 ∷ 108 ∷ 108 ∷ []
-stateWord Ended = 101 ∷ 110 ∷ 100 ∷ 101 ∷ 100 ∷ []
+stateWord Going = ascii "going"
+stateWord Full = ascii "full"
+stateWord Ended = ascii "ended"
 
--- file, sheet
 unfoldable pub paperWord : Paper → List ℕ
-paperWord File = 102 ∷ 105 ∷ 108 ∷ 101 ∷ []
-paperWord Sheet = 115 ∷ 104 ∷ 101 ∷ 101 ∷ 116 ∷ []
+paperWord File = ascii "file"
+paperWord Sheet = ascii "sheet"
 
 -- ---- the lines
 

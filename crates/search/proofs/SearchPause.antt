@@ -42,7 +42,8 @@ unfolding isRefusal bareTold numberTold
 number-back c refusal e = rw (sym e)
 number-back c (report x) e = rw (sym e)
 
-dual-back : (c : Call) (a : Answer) (bytes buffer : List ℕ) → isRefusal a ≡ c .refused → bufferBy a bytes buffer ≡ cond (c .refused) buffer (filled bytes buffer)
+dual-back : (c : Call) (a : Answer) (bytes buffer : List ℕ) → isRefusal a ≡ c .refused
+    → bufferBy a bytes buffer ≡ cond (c .refused) buffer (filled bytes buffer)
 unfolding isRefusal
 dual-back c refusal bytes buffer e = rw (sym e)
 dual-back c (report x) bytes buffer e = rw (sym e)

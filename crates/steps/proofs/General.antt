@@ -67,7 +67,8 @@ module _ (P : Problem) (r : Record) (l : List ℕ) (within : r .position ≤ sce
   unfolding atStop
   stop-still =
       let s = steps P (scenarios P - r .position) (begun r l) in
-      ⊎-elim (λ h. h) (λ e. step-end P (s .position) (s .found) (s .list) (s .tried) (s .rounds) (omega arith)) (steps-either P (scenarios P - r .position) (begun r l))
+      ⊎-elim (λ h. h) (λ e. step-end P (s .position) (s .found) (s .list) (s .tried) (s .rounds) (omega arith))
+      (steps-either P (scenarios P - r .position) (begun r l))
 
   -- "At or after p", and at most 3^k.
   pub stopFrom-least : r .position ≤ stopFrom P r l

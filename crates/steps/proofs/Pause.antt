@@ -16,7 +16,8 @@ use Rattle.steps.specs.Calls.{Call, refusal, report, Called, first, call
 use Rattle.steps.specs.Demand.{Honest, isRefused, isRefusal, Demand}
 use Rattle.steps.proofs.Sums.{sum-rounds, sum-bound}
 use Rattle.steps.proofs.Stopping.{stop-le}
-use Rattle.steps.proofs.Canonical.{foundBelow, recordAt, listAt, workAt, recordAt-fresh, listAt-fresh, listAt-found, listAt-beyond, listAt-length, continue-at}
+use Rattle.steps.proofs.Canonical.{foundBelow, recordAt, listAt, workAt, continue-at}
+use Rattle.steps.proofs.Canonical.{recordAt-fresh, listAt-fresh, listAt-found, listAt-beyond, listAt-length}
 use Rattle.steps.proofs.Sound.{reached-unspoilt}
 use Rattle.steps.proofs.Calling.{calls-refused, calls-made, allowances-refused, allowances-made, Same, without-refused}
 

@@ -62,7 +62,9 @@ put-decimal-returns : (t : ℕ) → put-decimal-lts.Need-returns (
   put-decimal-below t,
   put-decimal.Post,
 ) (put-decimal-at t) put-decimal.Post
-put-decimal-returns t c = one-put (c .before .before .before .before .before .before .args .n) (c .before .before .before .before .if1 .taken) (c .before .before .put-byte .ensures)
+put-decimal-returns t c =
+    let small = c .before .before .before .before in
+    one-put (small .before .before .args .n) (small .if1 .taken) (c .before .before .put-byte .ensures)
 
 put-decimal-put-decimal-requires : (t : ℕ) → put-decimal-lts.Need-put-decimal-requires (
   put-byte-reads.Asked,
@@ -111,8 +113,10 @@ put-decimal-returns-2 : (t : ℕ) → put-decimal-lts.Need-returns-2 (
   put-decimal.Post,
 ) (put-decimal-at t) put-decimal.Post
 put-decimal-returns-2 t c =
-    let start = c .before .before .before .before .before .before .before .before .before .before in
-    more-put (start .args .n) (start .fits .n .fits) (c .before .before .before .before .before .before .before .before .if1 .left) (c .before .before .before .before .before .before .put-decimal .ensures .0) (c .before .before .put-byte2 .ensures)
+    let more = c .before .before .before .before .before .before in
+    let large = more .before .before in
+    let start = large .before .before in
+    more-put (start .args .n) (start .fits .n .fits) (large .if1 .left) (more .put-decimal .ensures .0) (c .before .before .put-byte2 .ensures)
 
 pub +put-decimal-spec : {M : Type 1} → statement M
 +put-decimal-spec = close μ-put-decimal λ t. put-decimal-lts.spec (

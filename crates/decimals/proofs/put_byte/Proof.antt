@@ -15,7 +15,9 @@ use Rattle.decimals.proofs.put_byte.Tie as tie
 put : (c : tie.Joined1) → c .if1 .buffer ≡ written (c .before .args .at) (c .before .args .byte ∷ []) (now (c .before .args .buffer))
 put c =
     let a = c .before .args in
-    ⊎-elim (λ w. w .1 ∙ written-one (a .at) (a .byte) (now (a .buffer))) (λ w. w .1 ∙ written-out (a .at) (a .byte) (now (a .buffer)) (w .0 .left)) (c .if1 .came)
+    ⊎-elim (λ w. w .1 ∙ written-one (a .at) (a .byte) (now (a .buffer)))
+    (λ w. w .1 ∙ written-out (a .at) (a .byte) (now (a .buffer)) (w .0 .left))
+    (c .if1 .came)
 
 slice-write-buffer : tie.Need-slice-write-buffer
 slice-write-buffer c = search needs

@@ -11,13 +11,14 @@ use Rattle.decimals.proofs.put_text.Statement.{statement}
 use Rattle.decimals.proofs.put_text.Tie as tie
 
 abbrev Inv-loop : tie.InvT-loop
-Inv-loop buffer₀ at text end₀ i₀ buffer end i = Left at text buffer₀ end (drop i text) buffer × ((end ≡ at + i) × ((i ≤ length text) × (length buffer ≡ length buffer₀)))
+Inv-loop buffer₀ at text end₀ i₀ buffer end i =
+    Left at text buffer₀ end (drop i text) buffer × ((end ≡ at + i) × ((i ≤ length text) × (length buffer ≡ length buffer₀)))
 
 abbrev μ-loop : tie.MeasureT-loop
 μ-loop buffer₀ at text end₀ i₀ buffer end i = length text - i
 
 loop-holds : tie.Need-loop-holds Inv-loop μ-loop
-loop-holds c = (left-all (c .before .before .args .at) (now (c .before .before .args .text)) (now (c .before .before .args .buffer)), (omega arith, (omega arith, refl)))
+loop-holds c = let a = c .before .before .args in (left-all (a .at) (now (a .text)) (now (a .buffer)), (omega arith, (omega arith, refl)))
 
 shared-slice-read-put-byte : tie.Need-shared-slice-read-put-byte Inv-loop μ-loop
 shared-slice-read-put-byte c = omega arith

@@ -20,8 +20,10 @@ same-length-2 c = search needs
 
 returns : tie.Need-returns
 returns c =
-    let a = c .before .before .before .before .before .before .before .before .before .before .before .before .args in
-    (c .continued-words .ensures ∙ ap (continuedWords (recordOf (a .position) (a .found))) (c .before .before .before .before .before .continue-search .ensures .0), c .before .before .before .before .before .continue-search .ensures .1)
+    let called = c .before .before .before .before .before in
+    let a = called .before .before .before .before .before .before .before .args in
+    let told = called .continue-search .ensures in
+    (c .continued-words .ensures ∙ ap (continuedWords (recordOf (a .position) (a .found))) (told .0), told .1)
 
 pub finder-continue-spec : {M : Type 1} → statement M
 finder-continue-spec =

@@ -19,7 +19,9 @@ same-length-2 : tie.Need-same-length-2
 same-length-2 c = search needs
 
 returns : tie.Need-returns
-returns c = (c .judged-words .ensures ∙ ap judgedWords (c .before .before .before .before .before .judge .ensures .0), c .before .before .before .before .before .judge .ensures .1)
+returns c =
+    let told = c .before .before .before .before .before .judge .ensures in
+    (c .judged-words .ensures ∙ ap judgedWords (told .0), told .1)
 
 pub finder-judge-spec : {M : Type 1} → statement M
 finder-judge-spec =

@@ -1,13 +1,11 @@
 -- `found_lines::write_found` meets its contract.
 -- Assumes nothing.
-use mathlib.Core.List.{[], _∷_, _++_}
 use native.Mathlib.Omega.{arith}
 use denote.Ref.{now}
 use Rattle.papers.specs.Field.{numbers}
 use Rattle.decimals.specs.Decimal.{decimal}
-use Rattle.decimals.specs.Text.{spaced}
 use Rattle.found_lines.specs.FoundLine.{foundLine, foundWord, assumptions}
-use Rattle.decimals.proofs.Putting.{further, spaced-further, left-line, left-after, left-none}
+use Rattle.decimals.proofs.Putting.{put-line}
 use borrow.Author.Needs.{needs}
 use Rattle.found_lines.proofs.write_found.Statement.{statement}
 use Rattle.found_lines.proofs.write_found.Tie as tie
@@ -28,15 +26,15 @@ same-length : tie.Need-same-length
 same-length c = search needs
 
 returns : tie.Need-returns
-unfolding foundLine further
+unfolding foundLine
 returns c =
-    let a = c .before .before .before .before .before .before .before .before .before .before .before .before .before .before .before .args in
-    let n = decimal (a .scenario) in
-    let items = assumptions (numbers (now (a .abducibles))) (a .scenario) in
-    let l = left-line (a .at) foundWord (n ∷ items) (now (a .buffer)) in
-    let m = left-after (foundWord ++ 32 ∷ n) (further items) (c .before .before .before .before .before .before .before .before .before .before .put-number .ensures .0) l in
-    let o = left-after (spaced items) (10 ∷ []) (c .before .before .before .before .before .before .put-assumptions .ensures .0) (rw (← spaced-further items) at m) in
-    (left-none (left-after (10 ∷ []) [] (c .before .before .put-byte .ensures) o), omega arith)
+    let ended = c .before .before in
+    let items = ended .before .before .before .before in
+    let numbered = items .before .before .before .before in
+    let a = numbered .before .before .before .before .before .args in
+    let assumed = assumptions (numbers (now (a .abducibles))) (a .scenario) in
+    let put = put-line foundWord (decimal (a .scenario)) assumed in
+    (put (numbered .put-number .ensures .0) (items .put-assumptions .ensures .0) (ended .put-byte .ensures), omega arith)
 
 pub write-found-spec : {M : Type 1} → statement M
 write-found-spec =

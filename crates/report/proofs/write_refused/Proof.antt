@@ -1,12 +1,13 @@
 -- `report::write_refused` meets its contract.
 -- Assumes nothing.
-use mathlib.Core.List.{[], _∷_, _++_, append-assoc}
+use mathlib.Core.List.{[], _∷_, append-nil}
 use native.Mathlib.Omega.{arith}
 use denote.Ref.{now}
 use borrow.Author.Needs.{needs}
 use Rattle.decimals.specs.Decimal.{decimal}
+use Rattle.decimals.specs.Text.{spaced}
 use Rattle.report.specs.Lines.{refusedLine, refusedWord, paperWord}
-use Rattle.decimals.proofs.Putting.{further, left-line, left-after, left-none}
+use Rattle.decimals.proofs.Putting.{put-line}
 use Rattle.report.proofs.write_refused.Statement.{statement}
 use Rattle.report.proofs.write_refused.Tie as tie
 
@@ -29,16 +30,16 @@ same-length : tie.Need-same-length
 same-length c = search needs
 
 returns : tie.Need-returns
-unfolding refusedLine further
+unfolding refusedLine spaced
 returns c =
-    let a = c .before .before .before .before .before .before .before .before .before .before .before .before .before .before .before .args in
-    let n = decimal (a .refusal .number) in
-    let w = paperWord (a .refusal .paper) in
-    let p = decimal (a .refusal .place) in
-    let l = left-line (a .at) refusedWord (n ∷ w ∷ p ∷ []) (now (a .buffer)) in
-    let m = left-after (refusedWord ++ 32 ∷ n) (further (w ∷ p ∷ [])) (c .before .before .before .before .before .before .before .before .before .before .put-number .ensures .0) l in
-    let o = left-after (32 ∷ (w ++ 32 ∷ p)) (further []) (c .before .before .before .before .before .before .put-place .ensures .0) (rw (← append-assoc w (32 ∷ p) (10 ∷ [])) at m) in
-    (left-none (left-after (10 ∷ []) [] (c .before .before .put-byte .ensures) o), omega arith)
+    let ended = c .before .before in
+    let placed = ended .before .before .before .before in
+    let numbered = placed .before .before .before .before in
+    let a = numbered .before .before .before .before .before .args in
+    let paper = paperWord (a .refusal .paper) in
+    let place = decimal (a .refusal .place) in
+    let put = put-line refusedWord (decimal (a .refusal .number)) (paper ∷ place ∷ []) in
+    (put (numbered .put-number .ensures .0) (rw (append-nil place) (placed .put-place .ensures .0)) (ended .put-byte .ensures), omega arith)
 
 pub write-refused-spec : {M : Type 1} → statement M
 write-refused-spec =
