@@ -18,7 +18,8 @@ frame : {next : List ℕ} {k : ℕ} {l : List ℕ} (i v : ℕ) → i < k → Cha
 frame i v h (ends e) = ends e
 frame {next} {k} i v h (link {more = more} few rises rest) =
     let same : getD (set next i v) k 0 ≡ getD next k 0 = getD-set-other next i k v 0 (λ e. omega arith) in
-    link few (omega arith) (subst (λ (x : ℕ). Chain (set next i v) x more) (sym same) (frame {next = next} {k = getD next k 0} {l = more} i v (omega arith) rest))
+    let after = frame {next = next} {k = getD next k 0} {l = more} i v (omega arith) rest in
+    link few (omega arith) (subst (λ (x : ℕ). Chain (set next i v) x more) (sym same) after)
 
 -- The rules from a fold on are linked.
 pub record Linked (rules : List Rule) (fold : ℕ) (first next : List ℕ) : Type 0 where
@@ -50,21 +51,29 @@ module _ (rules : List Rule) (fold : ℕ) (here : fold < length rules) where
   unfolding foldsFrom
   folds-other o e = rw (one, ne-eqb ((getD rules fold noRule) .head) o e)
 
-  module _ (first next : List ℕ) (few : fold < 1280) (linked : Linked rules (fold + 1) first next) {head : ℕ} (headed : head ≡ (getD rules fold noRule) .head) (within : head < 513) where
-    joined : (o : ℕ) → o ≡ head → Chain (set next fold (getD first head 0)) (getD (set first head fold) o 0) (foldsFrom fold (drop fold rules) o)
+  module _ (first next : List ℕ) (few : fold < 1280) (linked : Linked rules (fold + 1) first next) {head : ℕ}
+      (headed : head ≡ (getD rules fold noRule) .head) (within : head < 513) where
+    -- The tables once the fold is linked, and what was its head's first.
+    abbrev next-linked : List ℕ
+    next-linked = set next fold (getD first head 0)
+
+    abbrev later : List ℕ
+    later = foldsFrom (fold + 1) (drop (fold + 1) rules) head
+
+    joined : (o : ℕ) → o ≡ head → Chain next-linked (getD (set first head fold) o 0) (foldsFrom fold (drop fold rules) o)
     joined o e =
         let there : getD (set first head fold) o 0 ≡ fold = rw e (getD-set-same first head fold 0 (omega (arith, linked .firsts))) in
-        let after : getD (set next fold (getD first head 0)) fold 0 ≡ getD first head 0 = getD-set-same next fold (getD first head 0) 0 (omega (arith, linked .nexts)) in
-        let rest : Chain (set next fold (getD first head 0)) (getD first head 0) (foldsFrom (fold + 1) (drop (fold + 1) rules) head) =
-        frame fold (getD first head 0) (omega (arith, linked .above head within)) (linked .at head within) in
-        rw (there, folds-same o (sym headed ∙ sym e), e) (link {more = foldsFrom (fold + 1) (drop (fold + 1) rules) head} few (omega (arith, linked .above head within)) (rw after rest))
+        let after : getD next-linked fold 0 ≡ getD first head 0 = getD-set-same next fold (getD first head 0) 0 (omega (arith, linked .nexts)) in
+        let above = linked .above head within in
+        let rest : Chain next-linked (getD first head 0) later = frame fold (getD first head 0) (omega arith) (linked .at head within) in
+        rw (there, folds-same o (sym headed ∙ sym e), e) (link {more = later} few (omega arith) (rw after rest))
 
-    kept : (o : ℕ) → o < 513 → (o ≡ head → ⊥) → Chain (set next fold (getD first head 0)) (getD (set first head fold) o 0) (foldsFrom fold (drop fold rules) o)
+    kept : (o : ℕ) → o < 513 → (o ≡ head → ⊥) → Chain next-linked (getD (set first head fold) o 0) (foldsFrom fold (drop fold rules) o)
     kept o h e =
         let there : getD (set first head fold) o 0 ≡ getD first o 0 = getD-set-other first head o fold 0 e in
         rw (there, folds-other o (λ q. e (sym (headed ∙ q)))) (frame fold (getD first head 0) (omega (arith, linked .above o h)) (linked .at o h))
 
-    pub linked-more : Linked rules fold (set first head fold) (set next fold (getD first head 0))
+    pub linked-more : Linked rules fold (set first head fold) next-linked
     linked-more = record {
       firsts = simp length-set (linked .firsts);
       nexts = simp length-set (linked .nexts);
@@ -106,7 +115,8 @@ unfolding followed
 followed-is zero k h (ends e) = refl
 followed-is (suc room) k h (ends e) = rw (le-ltb k 1280 (omega arith))
 followed-is zero k h (link few rises rest) = absurd (omega arith)
-followed-is {next} (suc room) k h (link few rises rest) = rw (lt-ltb k 1280 few) (ap (λ (x : List ℕ). k ∷ x) (followed-is room (getD next k 0) (omega arith) rest))
+followed-is {next} (suc room) k h (link few rises rest) =
+    rw (lt-ltb k 1280 few) (ap (λ (x : List ℕ). k ∷ x) (followed-is room (getD next k 0) (omega arith) rest))
 
 -- A walk along a chain: what lies behind, and what is ahead.
 pub record Following (next l : List ℕ) (fold count : ℕ) : Type 0 where

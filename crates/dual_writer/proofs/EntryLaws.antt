@@ -39,7 +39,8 @@ unfolding walk
 walk-step rules total k more e = rw e
 
 module _ (all : List Rule) (o : ℕ) where
-  walk-folds : (j total : ℕ) (rules : List Rule) → drop j all ≡ rules → walk all total (foldsFrom j rules o) ≡ cond (isFact rules o) 0 (total + rulesLength rules o)
+  walk-folds : (j total : ℕ) (rules : List Rule) → drop j all ≡ rules
+      → walk all total (foldsFrom j rules o) ≡ cond (isFact rules o) 0 (total + rulesLength rules o)
   unfolding walk foldsFrom isFact rulesLength ruleLength
   walk-folds j total [] e = omega arith
   walk-folds j total (r ∷ more) e = go (eqb (r .head) o) (isEmpty (r .body)) refl (λ t. walk-folds (j + 1) t more (past-place all j e))
@@ -47,7 +48,8 @@ module _ (all : List Rule) (o : ℕ) where
       go : (a b : Bool) → isEmpty (r .body) ≡ b
           → ((t : ℕ) → walk all t (foldsFrom (j + 1) more o) ≡ cond (isFact more o) 0 (t + rulesLength more o))
           → walk all total (cond a (j ∷ foldsFrom (j + 1) more o) (foldsFrom (j + 1) more o))
-          ≡ cond (cond a (cond (isEmpty (r .body)) true (isFact more o)) (isFact more o)) 0 (total + cond a (ruleLength r + rulesLength more o) (rulesLength more o))
+          ≡ cond (cond a (cond (isEmpty (r .body)) true (isFact more o)) (isFact more o)) 0
+          (total + cond a (ruleLength r + rulesLength more o) (rulesLength more o))
       go false b z ih = ih total
       go true true z ih = rw (at-place all j e noRule, z)
       go true false z ih =

@@ -57,7 +57,8 @@ pub record Entered (p : Program) (next : List ℕ) (o base : ℕ) (start buffer 
   pub ends : end ≡ base + length (foldBytes (allRules p) (follows .done))
   pub written : buffer ≡ filled (take base start ++ foldBytes (allRules p) (follows .done)) start
 
-pub entered-none : (p : Program) (next : List ℕ) (o base : ℕ) (start : List ℕ) (fold : ℕ) → base ≤ length start → Chain next fold (foldsOf p o) → Entered p next o base start start fold base
+pub entered-none : (p : Program) (next : List ℕ) (o base : ℕ) (start : List ℕ) (fold : ℕ) → base ≤ length start → Chain next fold (foldsOf p o)
+    → Entered p next o base start start fold base
 unfolding following-starts encodeFields
 entered-none p next o base start fold h c = record {
   count = 0;
@@ -69,13 +70,17 @@ entered-none p next o base start fold h c = record {
 
 module _ (p : Program) (next : List ℕ) (o base : ℕ) (start buffer : List ℕ) (fold end : ℕ) (w : Entered p next o base start buffer fold end)
     (fits : base + length (foldBytes (allRules p) (foldsOf p o)) ≤ length start) where
-  prefix : length (take base start ++ foldBytes (allRules p) (w .follows .done)) ≡ end
+  -- The bytes of some folds.
+  abbrev bytesOf : List ℕ → List ℕ
+  bytesOf = foldBytes (allRules p)
+
+  prefix : length (take base start ++ bytesOf (w .follows .done)) ≡ end
   prefix =
       let t = length-take-le base start (omega arith) in
-      let a = length-append (take base start) (foldBytes (allRules p) (w .follows .done)) in
+      let a = length-append (take base start) (bytesOf (w .follows .done)) in
       omega (arith, w .ends)
 
-  pub entered-done : 1280 ≤ fold → (end ≡ base + length (foldBytes (allRules p) (foldsOf p o))) × (buffer ≡ filled (take base start ++ foldBytes (allRules p) (foldsOf p o)) start)
+  pub entered-done : 1280 ≤ fold → (end ≡ base + length (bytesOf (foldsOf p o))) × (buffer ≡ filled (take base start ++ bytesOf (foldsOf p o)) start)
   entered-done h =
       let d = following-done next (foldsOf p o) fold (w .count) (w .follows) h in
       (rw (d .0) at (w .ends), rw (d .0) at (w .written))
@@ -96,12 +101,12 @@ module _ (p : Program) (next : List ℕ) (o base : ℕ) (start buffer : List ℕ
     -- There is room for this fold's field.
     pub entered-room : end + length (oneFold (allRules p) fold) ≤ length start
     entered-room =
-        let s = ap (λ (l : List ℕ). length (foldBytes (allRules p) l)) (w .follows .split) in
+        let s = ap (λ (l : List ℕ). length (bytesOf l)) (w .follows .split) in
         let a = ap length (folds-append (allRules p) (w .follows .done) (w .follows .ahead)) in
-        let b = length-append (foldBytes (allRules p) (w .follows .done)) (foldBytes (allRules p) (w .follows .ahead)) in
-        let c = ap (λ (l : List ℕ). length (foldBytes (allRules p) l)) (linked .is) in
+        let b = length-append (bytesOf (w .follows .done)) (bytesOf (w .follows .ahead)) in
+        let c = ap (λ (l : List ℕ). length (bytesOf l)) (linked .is) in
         let d = ap length (fold-cons (allRules p) fold (linked .more)) in
-        let e = length-append (oneFold (allRules p) fold) (foldBytes (allRules p) (linked .more)) in
+        let e = length-append (oneFold (allRules p) fold) (bytesOf (linked .more)) in
         omega (arith, w .ends)
 
     -- The part from `end` on is filled with it.
@@ -109,10 +114,13 @@ module _ (p : Program) (next : List ℕ) (o base : ℕ) (start buffer : List ℕ
         → Entered p next o base start (take end buffer ++ part) (getD next fold 0) (end + size)
     unfolding following-next
     entered-next part size q s =
-        let bytes = take base start ++ foldBytes (allRules p) (w .follows .done) in
-        let m : foldBytes (allRules p) (w .follows .done ++ fold ∷ []) ≡ foldBytes (allRules p) (w .follows .done) ++ oneFold (allRules p) fold = fold-more (allRules p) (w .follows .done) fold in
+        let behind = bytesOf (w .follows .done) in
+        let one = oneFold (allRules p) fold in
+        let bytes = take base start ++ behind in
+        let m : bytesOf (w .follows .done ++ fold ∷ []) ≡ behind ++ one = fold-more (allRules p) (w .follows .done) fold in
         let n = ap length m in
-        let a = length-append (foldBytes (allRules p) (w .follows .done)) (oneFold (allRules p) fold) in
+        let a = length-append behind one in
+        let joined = append-assoc (take base start) behind one ∙ ap (λ (x : List ℕ). take base start ++ x) (sym m) in
         record {
           count = w .count + 1;
           follows = following-next next (foldsOf p o) fold (w .count) (w .follows) here;
@@ -120,10 +128,10 @@ module _ (p : Program) (next : List ℕ) (o base : ℕ) (start buffer : List ℕ
           ends = omega (arith, w .ends);
           written =
               ap (λ (x : List ℕ). take end buffer ++ x) q
-              ∙ ap (λ (x : List ℕ). take end x ++ filled (oneFold (allRules p) fold) (drop end x)) (w .written)
-              ∙ ap (λ (k : ℕ). take k (filled bytes start) ++ filled (oneFold (allRules p) fold) (drop k (filled bytes start))) (sym prefix)
-              ∙ filled-part bytes (oneFold (allRules p) fold) start
-              ∙ ap (λ (x : List ℕ). filled x start) (append-assoc (take base start) (foldBytes (allRules p) (w .follows .done)) (oneFold (allRules p) fold) ∙ ap (λ (x : List ℕ). take base start ++ x) (sym m));
+              ∙ ap (λ (x : List ℕ). take end x ++ filled one (drop end x)) (w .written)
+              ∙ ap (λ (k : ℕ). take k (filled bytes start) ++ filled one (drop k (filled bytes start))) (sym prefix)
+              ∙ filled-part bytes one start
+              ∙ ap (λ (x : List ℕ). filled x start) joined;
         }
 
 -- ---- lengths
@@ -142,8 +150,10 @@ entry-parts p o =
     omega arith
 
 -- The literal's field stands, and its folds' after it: the entry stands.
-pub entry-written : (p : Program) (o base : ℕ) (buffer start entry' : List ℕ) → base ≡ 5 + 2 * length (foldsOf p o) → length (encodeFields (entry p o)) ≤ length buffer
-    → start ≡ filled (encodeField 0x08 (encodeNumbers (o ∷ foldsOf p o))) buffer → entry' ≡ filled (take base start ++ foldBytes (allRules p) (foldsOf p o)) start
+pub entry-written : (p : Program) (o base : ℕ) (buffer start entry' : List ℕ) → base ≡ 5 + 2 * length (foldsOf p o)
+    → length (encodeFields (entry p o)) ≤ length buffer
+    → start ≡ filled (encodeField 0x08 (encodeNumbers (o ∷ foldsOf p o))) buffer
+    → entry' ≡ filled (take base start ++ foldBytes (allRules p) (foldsOf p o)) start
     → entry' ≡ filled (encodeFields (entry p o)) buffer
 entry-written p o base buffer start entry' e h s w =
     let field = encodeField 0x08 (encodeNumbers (o ∷ foldsOf p o)) in

@@ -53,7 +53,9 @@ module _ (p : Program) where
   entries-split (suc a) b o =
       let e : suc a + b ≡ suc (a + b) = omega arith in
       let f : o + 1 + a ≡ o + suc a = omega arith in
-      rw e (ap (λ (l : List Field). entryIfAny p o ++ l) (entries-split a b (o + 1)) ∙ sym (append-assoc (entryIfAny p o) (entriesFrom p a (o + 1)) (entriesFrom p b (o + 1 + a)))) ∙ ap (λ (k : ℕ). (entryIfAny p o ++ entriesFrom p a (o + 1)) ++ entriesFrom p b k) f
+      let apart = sym (append-assoc (entryIfAny p o) (entriesFrom p a (o + 1)) (entriesFrom p b (o + 1 + a))) in
+      rw e (ap (λ (l : List Field). entryIfAny p o ++ l) (entries-split a b (o + 1)) ∙ apart)
+      ∙ ap (λ (k : ℕ). (entryIfAny p o ++ entriesFrom p a (o + 1)) ++ entriesFrom p b k) f
 
   bytes-more : (o : ℕ) → encodeFields (entriesFrom p (o + 1) 0) ≡ encodeFields (entriesFrom p o 0) ++ encodeFields (entryIfAny p o)
   bytes-more o = ap encodeFields (entries-more p o) ∙ encodeFields-append (entriesFrom p o 0) (entryIfAny p o)
@@ -63,13 +65,16 @@ module _ (p : Program) where
   table-length = let a = length-append (encodeFields (dual p)) (0x7F ∷ 0 ∷ 0 ∷ []) in let b = dual-length p in omega arith
 
   -- There is room for one more.
-  pub table-room : (count o : ℕ) → count ≡ judged (p .atoms) → o < count → length (encodeFields (entriesFrom p o 0)) + length (encodeFields (entryIfAny p o)) + 3 ≤ dualLength p
+  pub table-room : (count o : ℕ) → count ≡ judged (p .atoms) → o < count
+      → length (encodeFields (entriesFrom p o 0)) + length (encodeFields (entryIfAny p o)) + 3 ≤ dualLength p
   unfolding dual
   table-room count o e h =
       let m = ap length (bytes-more o) ∙ length-append (encodeFields (entriesFrom p o 0)) (encodeFields (entryIfAny p o)) in
       let s : o + 1 + (count - (o + 1)) ≡ judged (p .atoms) = omega arith in
-      let q = ap length (ap encodeFields (ap (λ (k : ℕ). entriesFrom p k 0) (sym s) ∙ entries-split (o + 1) (count - (o + 1)) 0) ∙ encodeFields-append (entriesFrom p (o + 1) 0) (entriesFrom p (count - (o + 1)) (0 + (o + 1)))) in
-      let r = length-append (encodeFields (entriesFrom p (o + 1) 0)) (encodeFields (entriesFrom p (count - (o + 1)) (0 + (o + 1)))) in
+      let later = entriesFrom p (count - (o + 1)) (0 + (o + 1)) in
+      let split = ap (λ (k : ℕ). entriesFrom p k 0) (sym s) ∙ entries-split (o + 1) (count - (o + 1)) 0 in
+      let q = ap length (ap encodeFields split ∙ encodeFields-append (entriesFrom p (o + 1) 0) later) in
+      let r = length-append (encodeFields (entriesFrom p (o + 1) 0)) (encodeFields later) in
       let t = table-length in
       omega arith
 

@@ -103,9 +103,11 @@ module _ (next l start buffer : List ℕ) (fold at : ℕ) (w : Listed next l sta
     unfolding following-next
     listed-next =
         let room = following-room next l fold (w .count) (w .follows) here in
+        let size = w .follows .size in
+        let more = numbered-more 5 start buffer (w .follows .done) (w .written) (omega arith) in
         record {
           count = w .count + 1;
           follows = following-next next l fold (w .count) (w .follows) here;
           at-is = omega (arith, w .at-is);
-          written = numbered-more 5 start buffer (w .follows .done) (w .written) (omega (arith, w .follows .size)) at fold (omega (arith, w .at-is, w .follows .size)) listed-room;
+          written = more at fold (omega (arith, w .at-is)) listed-room;
         }

@@ -46,7 +46,10 @@ module _ (c : tie.After-write-entries) where
 
   -- There is room for the end.
   room : c .write-entries .result + 3 ≤ length (c .write-entries .last .0)
-  room = omega (arith, table-length (program (start counted)), c .write-entries .ensures .0, c .write-entries .kept .0, counted .dual-length .ensures, long .if1 .left)
+  room =
+      let w = c .write-entries in
+      let size = table-length (program (start counted)) in
+      omega (arith, w .ensures .0, w .kept .0, counted .dual-length .ensures, long .if1 .left)
 
 fold-chains-requires : tie.Need-fold-chains-requires
 fold-chains-requires c κs = search needs
@@ -62,9 +65,11 @@ returns c =
 
 returns-2 : tie.Need-returns-2
 returns-2 c =
-    let s = start (c .before .before) in
+    let counted = c .before .before in
+    let s = start counted in
     let a = s .args in
-    (dual-length-is (now (a .file)) (now (a .dual)) (program s) (read s) (c .before .before .dual-length .ensures) (c .before .if1 .left), rw (not-true (a .allowed) (c .if2 .taken)))
+    let size = dual-length-is (now (a .file)) (now (a .dual)) (program s) (read s) (counted .dual-length .ensures) (c .before .if1 .left) in
+    (size, rw (not-true (a .allowed) (c .if2 .taken)))
 
 write-entries-requires : tie.Need-write-entries-requires
 write-entries-requires c κs =
@@ -99,12 +104,12 @@ returns-3 c =
     let s = start (counted entries) in
     let a = s .args in
     let size = counted entries .dual-length .ensures in
-    let fits = long entries .if1 .left in (
+    let fits = long entries .if1 .left in
+    let end = rw (to-end (w .result) (w .last .0)) at (ended .ensures) in
+    let whole = end-written (program s) (now (a .dual)) (w .last .0) (ended .last .0) (w .result) (w .ensures .0) (w .ensures .1) end in (
       dual-length-is (now (a .file)) (now (a .dual)) (program s) (read s) size fits,
-      rw (not-false (a .allowed) (entries .before .before .before .before .if2 .left)) (dual-fits (now (a .file)) (now (a .dual)) (program s) (read s) size fits _
-          (put-end (w .result) (w .last .0) (ended .last .0)
-          ∙ end-written (program s) (now (a .dual)) (w .last .0) (ended .last .0) (w .result) (w .ensures .0) (w .ensures .1)
-          (rw (to-end (w .result) (w .last .0)) at (ended .ensures)))),
+      rw (not-false (a .allowed) (entries .before .before .before .before .if2 .left))
+          (dual-fits (now (a .file)) (now (a .dual)) (program s) (read s) size fits _ (put-end (w .result) (w .last .0) (ended .last .0) ∙ whole)),
     )
 
 pub write-accepted-spec : {M : Type 1} → statement M

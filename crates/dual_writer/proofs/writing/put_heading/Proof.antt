@@ -24,7 +24,14 @@ same-length : tie.Need-same-length
 same-length c = c .before .before .put-number2 .kept .0 ∙ c .before .before .before .before .before .before .put-number .kept .0 ∙ simp length-set
 
 returns : tie.Need-returns
-returns c = let a = c .before .before .before .before .before .before .before .before .before .args in c .before .before .put-number2 .ensures ∙ ap (λ (l : List ℕ). set (set l 3 (a .number / 256)) 4 (a .number % 256)) (c .before .before .before .before .before .before .put-number .ensures) ∙ filled-heading (now (a .buffer)) (a .tag) _ _ _ _ (c .before .before .before .before .before .before .before .before .before .pre .0)
+returns c =
+    let second = c .before .before in
+    let first = second .before .before .before .before in
+    let start = first .before .before .before in
+    let a = start .args in
+    second .put-number2 .ensures
+    ∙ ap (λ (l : List ℕ). set (set l 3 (a .number / 256)) 4 (a .number % 256)) (first .put-number .ensures)
+    ∙ filled-heading (now (a .buffer)) (a .tag) _ _ _ _ (start .pre .0)
 
 pub put-heading-spec : {M : Type 1} → statement M
 put-heading-spec =
