@@ -64,7 +64,8 @@ lines-few P small list s stands abducibles below short =
     let few = few-found P list s stands in
     let top = stop-le P (length list) in
     let low = minimals-below P (s .reached .position) in
-    let most = lines-length abducibles (minimals P (s .reached .position)) (s .reached .position) (let f = small .few in let w = stands .within in omega arith) low below short in
+    let within : s .reached .position ≤ 43046721 = let most = small .few in let reached = stands .within in omega arith in
+    let most = lines-length abducibles (minimals P (s .reached .position)) (s .reached .position) within low below short in
     let f = stands .found in
     rw (stands .entries) (omega arith)
 

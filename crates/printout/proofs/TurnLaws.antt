@@ -33,7 +33,8 @@ module _ (P : Problem) (L : ℕ) (before after : Progress) (within : before .rea
       let there : stop P L ≡ scenarios P = omega arith in
       record { finished = λ h. record { position = omega arith; state = s ∙ rw (eq-eqb (stop P L) (scenarios P) there) }; nearer = omega arith }
 
-  fills : (after .reached .position ≡ scenarios P → ⊥) → after .reached .position - before .reached .position < 4096 → after .state ≡ Full → Turned P L before after false
+  fills : (after .reached .position ≡ scenarios P → ⊥) → after .reached .position - before .reached .position < 4096 → after .state ≡ Full
+      → Turned P L before after false
   unfolding lastState
   fills e short s =
       let at = gone .position in

@@ -13,7 +13,8 @@ use Rattle.papers.proofs.NumberLaws.{Bytes}
 use Rattle.trying.specs.Trying.{problemOf}
 use Rattle.printout.specs.DeskSearch.{AcceptedAs, problemFor}
 use Rattle.printout.specs.Output.{foundLines}
-use Rattle.printout.proofs.PaperLaws.{problem-is, small, program-valid, abducibles-below, listed-are, few-listed, atoms-told, listed-within, listed-there}
+use Rattle.printout.proofs.PaperLaws.{problem-is, small, program-valid, atoms-told}
+use Rattle.printout.proofs.PaperLaws.{abducibles-below, listed-are, few-listed, listed-within, listed-there}
 use Rattle.printout.proofs.TextLaws.{few-found, lines-few, text-put, text-is}
 use Rattle.printout.proofs.write_accepted.Statement.{statement}
 use Rattle.printout.proofs.write_accepted.Tie as tie
@@ -60,7 +61,9 @@ module _ (c : tie.After-search-all) where
   lines-long : length (foundLines listed (take (c .search-all .result .reached .found) list)) ≤ 95 * length list
   lines-long =
       let stands = rw (problem-is (both .is)) at (c .search-all .ensures .0) in
-      let most = lines-few (problemOf (both .papers)) (small file sheet (both .is)) list (c .search-all .result) stands (both .papers .program .abducibles) (abducibles-below file sheet (both .is)) (program-valid file sheet (both .is) .fewAbducibles) in
+      let lines = lines-few (problemOf (both .papers)) (small file sheet (both .is)) list (c .search-all .result) stands in
+      let few = program-valid file sheet (both .is) .fewAbducibles in
+      let most = lines (both .papers .program .abducibles) (abducibles-below file sheet (both .is)) few in
       subst (λ (l : List ℕ). length (foundLines l (take (c .search-all .result .reached .found) list)) ≤ 95 * length list) there most
 
 -- ---- once the heading is written
@@ -141,8 +144,11 @@ returns c =
     let s = searched heading in
     let told = both s .told in
     let is = both s .is in
+    let atoms = atoms-told (file s) (sheet s) is told in
+    let abducibles = listed-are (file s) (sheet s) is told in
+    let total = sym (counted s .scenario-count .ensures) in
     let text =
-    text-put is (s .search-all .ensures .0) (s .search-all .ensures .1) (atoms-told (file s) (sheet s) is told) (listed-are (file s) (sheet s) is told) (sym (counted s .scenario-count .ensures)) (there s)
+    text-put is (s .search-all .ensures .0) (s .search-all .ensures .1) atoms abducibles total (there s)
     (heading .write-heading .ensures .0) (found .write-found-lines .ensures .0) (ended .write-last .ensures .0) in
     let lines = lines-long s in
     let size = long s in

@@ -45,10 +45,14 @@ loop-again : tie.Need-loop-again Inv-loop μ-loop
 loop-again c =
     let start = c .before .before .before .before .before .before .before .before .before .before in
     let a = start .args in
-    let l = c .before .before .before .before .before .before .loop in
+    let inside = c .before .before .before .before .before in
+    let l = inside .before .loop in
     let put = c .before .before .write-found in
-    let next = lines-next (numbers (now (a .abducibles))) (l .i) (a .found) (now (a .list)) (c .before .before .before .before .before .loop-test .taken) (start .pre .1 .0) in (
-      left-after (foundLine (getD (now (a .list)) (l .i) 0) (numbers (now (a .abducibles)))) (foundLines (numbers (now (a .abducibles))) (drop (l .i + 1) (take (a .found) (now (a .list))))) (put .ensures .0) (rw next at (l .inv .0)),
+    let abducibles = numbers (now (a .abducibles)) in
+    let one = foundLine (getD (now (a .list)) (l .i) 0) abducibles in
+    let others = foundLines abducibles (drop (l .i + 1) (take (a .found) (now (a .list)))) in
+    let next = lines-next abducibles (l .i) (a .found) (now (a .list)) (inside .loop-test .taken) (start .pre .1 .0) in (
+      left-after one others (put .ensures .0) (rw next at (l .inv .0)),
       (omega arith, (let p = put .ensures .1 in omega arith, put .kept .0 ∙ l .inv .1 .1 .1)),
     )
 

@@ -16,7 +16,7 @@ use Rattle.trying.specs.declared.Report.{Report}
 use Rattle.search.specs.Searching.{continuedTold, continueTold}
 use Rattle.search.proofs.Continued.{the-type}
 use Rattle.search.proofs.ContinuedTold.{reported-told}
-use Rattle.printout.specs.DeskSearch.{Accepted, problemFor}
+use Rattle.printout.specs.DeskSearch.{Accepted, problemOn}
 use Rattle.printout.proofs.PaperLaws.{small, dual-few}
 use Rattle.printout.proofs.DeskCalls.{Called, tells-report, called}
 use Rattle.printout.proofs.searching.go_on.Statement.{statement}
@@ -64,11 +64,20 @@ module _ (c : tie.After-known-told) where
   abbrev asked : tie.After-continue-search
   asked = c .before .before .before .before .before .before .before
 
-  made : Called (problemFor (readPapers (file asked) (sheet asked))) (list asked) (start asked .args .before) (c .before .continued .given .0 .0) (asked .continue-search .last .1 .1 .1 .0)
+  -- The report, and the list that the call left.
+  abbrev reported : Report
+  reported = c .before .continued .given .0 .0
+
+  abbrev left : List ℕ
+  left = asked .continue-search .last .1 .1 .1 .0
+
+  made : Called (problemOn (file asked) (sheet asked)) (list asked) (start asked .args .before) reported left
   made =
       let s = asked in
-      called (both s .is) (small (file s) (sheet s) (both s .is)) (length (now (start s .args .dual))) (enough s) (list s) (start s .args .before) (start s .pre .1 .1)
-      (ap continuedTold (sym (c .before .continued .given .1)) ∙ told s) (s .continue-search .ensures .1 .1)
+      let a = start s .args in
+      let few = small (file s) (sheet s) (both s .is) in
+      let is = ap continuedTold (sym (c .before .continued .given .1)) ∙ told s in
+      called (both s .is) few (length (now (a .dual))) (enough s) (list s) (a .before) (start s .pre .1 .1) is (s .continue-search .ensures .1 .1)
 
 continue-search-requires : tie.Need-continue-search-requires
 continue-search-requires c κs = search needs

@@ -7,22 +7,21 @@ use native.Mathlib.Omega.{arith}
 use borrow.Author.Needs.{needs}
 use denote.Ref.{now}
 use lib.ListN.{length}
-use Rattle.papers.specs.Reading.{readPapers}
 use Rattle.steps.specs.Explanations.{Problem, stop}
 use Rattle.printout.specs.declared.searching.Progress.{Progress}
-use Rattle.printout.specs.DeskSearch.{problemFor, Stands, GoneOn, Finished}
+use Rattle.printout.specs.DeskSearch.{problemOn, Stands, GoneOn, Finished}
 use Rattle.printout.proofs.TurnLaws.{left, Turned, turned, begins}
 use Rattle.printout.proofs.searching.search_all.Statement.{statement}
 use Rattle.printout.proofs.searching.search_all.Tie as tie
 
 abbrev Inv-loop : tie.InvT-loop
 Inv-loop file sheet dual₀ list₀ progress₀ going₀ dual list progress going =
-    Stands (problemFor (readPapers file sheet)) list progress
-    × ((going ≡ false → Finished (problemFor (readPapers file sheet)) (length list₀) progress)
+    Stands (problemOn file sheet) list progress
+    × ((going ≡ false → Finished (problemOn file sheet) (length list₀) progress)
     × ((length dual ≡ length dual₀) × (length list ≡ length list₀)))
 
 abbrev μ-loop : tie.MeasureT-loop
-μ-loop file sheet dual₀ list₀ progress₀ going₀ dual list progress going = left (problemFor (readPapers file sheet)) progress going
+μ-loop file sheet dual₀ list₀ progress₀ going₀ dual list progress going = left (problemOn file sheet) progress going
 
 -- ---- once a turn's call is made
 
@@ -40,7 +39,7 @@ module _ (c : tie.After-is-going Inv-loop μ-loop) where
   start = head .before .before .before .before .before .before
 
   abbrev problem : Problem
-  problem = problemFor (readPapers (now (start .args .file)) (now (start .args .sheet)))
+  problem = problemOn (now (start .args .file)) (now (start .args .sheet))
 
   abbrev progress : Progress
   progress = called .go-on .result
@@ -61,7 +60,7 @@ fresh-requires c κs = search needs
 loop-holds : tie.Need-loop-holds Inv-loop μ-loop
 loop-holds c =
     let a = c .before .before .before .before .before .args in (
-      begins (problemFor (readPapers (now (a .file)) (now (a .sheet)))) (now (a .list)) _ (c .fresh .ensures) refl refl,
+      begins (problemOn (now (a .file)) (now (a .sheet))) (now (a .list)) _ (c .fresh .ensures) refl refl,
       ((λ h. absurd (true≢false cc)), (refl, refl)),
     )
 
@@ -76,7 +75,8 @@ is-going-requires c κs = search needs
 
 loop-less : tie.Need-loop-less Inv-loop μ-loop
 loop-less c =
-    subst (λ (b : Bool). left (problem c) (progress c) (c .is-going .result) < left (problem c) (head c .loop .progress) b) (sym (going c .loop-test .taken)) (turn c .nearer)
+    let after = left (problem c) (progress c) (c .is-going .result) in
+    subst (λ (b : Bool). after < left (problem c) (head c .loop .progress) b) (sym (going c .loop-test .taken)) (turn c .nearer)
 
 loop-again : tie.Need-loop-again Inv-loop μ-loop
 loop-again c =
