@@ -133,10 +133,11 @@ fn either(random: &mut Random, objective: ObjectiveLiteral) -> Literal {
 mod tests {
     use super::*;
     use plain::{encode_file, encode_sheet, read_papers};
+    use random::seed::seed;
 
     #[test]
     fn their_papers_are_accepted() {
-        let mut random = Random::new(6);
+        let mut random = Random::new(seed(6));
         for round in 0..2_000 {
             let abducibles = round % 17;
             let others = random.between(1, 5);

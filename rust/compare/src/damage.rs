@@ -284,10 +284,11 @@ fn put_number_at(bytes: &mut [u8], at: usize, number: u16) {
 #[cfg(test)]
 mod tests {
     use super::*;
+    use random::seed::seed;
 
     #[test]
     fn any_bytes_can_be_damaged() {
-        let mut random = Random::new(4);
+        let mut random = Random::new(seed(4));
         let bounds = Bounds {
             atoms: 2,
             abducibles: vec![Atom(1)],

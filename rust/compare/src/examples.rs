@@ -15,12 +15,16 @@ pub struct Example {
     pub expected: String,
 }
 
+/// The folder of `examples/` that is no call but a program.
+const PROGRAM: &str = "c";
+
 /// All of them, by name.
 pub fn examples() -> Vec<Example> {
     let directory = Path::new(env!("CARGO_MANIFEST_DIR")).join("../../examples");
     let entries = fs::read_dir(directory).expect("a directory of examples");
     let paths = entries.map(|entry| entry.expect("an entry").path());
-    let mut folders: Vec<PathBuf> = paths.filter(|path| path.is_dir()).collect();
+    let is_call = |path: &PathBuf| path.is_dir() && !path.ends_with(PROGRAM);
+    let mut folders: Vec<PathBuf> = paths.filter(is_call).collect();
     folders.sort();
     folders.into_iter().map(Example::read).collect()
 }

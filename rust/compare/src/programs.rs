@@ -203,10 +203,11 @@ fn literals(random: &mut Random, size: &Size) -> Vec<Literal> {
 #[cfg(test)]
 mod tests {
     use super::*;
+    use random::seed::seed;
 
     #[test]
     fn the_largest_program_makes_the_longest_file() {
-        let mut random = Random::new(2);
+        let mut random = Random::new(seed(2));
         let program = program(&mut random, &Size::LARGEST);
         let front = 4 + 5 + (3 + 2 * 16);
         let rules = 1024 * (3 + 2 * 17);
@@ -219,7 +220,7 @@ mod tests {
 
     #[test]
     fn a_program_has_the_longest_dual() {
-        let mut random = Random::new(5);
+        let mut random = Random::new(seed(5));
         let program = program(&mut random, &Size::LONGEST_DUAL);
         let dual = plain::encode_dual(&plain::dual(&program));
         assert_eq!(dual.len(), 52_488);
@@ -227,7 +228,7 @@ mod tests {
 
     #[test]
     fn where_all_atoms_are_abducible_there_are_no_rules() {
-        let mut random = Random::new(3);
+        let mut random = Random::new(seed(3));
         let size = Size {
             atoms: 2,
             abducibles: 3,

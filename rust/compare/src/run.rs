@@ -1,6 +1,6 @@
 //! What a comparison prints: the lines of a test harness with one test.
 
-use std::env;
+use random::seed::{seed, VARIABLE};
 use std::process::exit;
 use std::time::{Instant, SystemTime, UNIX_EPOCH};
 
@@ -12,17 +12,15 @@ pub struct Run {
 }
 
 impl Run {
-    /// The seed is that of the clock, or FINDER_SEED to repeat a run. It is
-    /// said first, so that it is known even if the process is stopped.
+    /// The test's own seed is that of the clock. It is said first, so that it is
+    /// known even if the process is stopped.
     pub fn start(test: &'static str, subject: &str) -> Run {
-        let started = Instant::now();
-        let seed = seed();
         println!("\nrunning 1 test");
-        println!("comparing {subject}, FINDER_SEED={seed}");
+        println!("comparing {subject}");
         Run {
             test,
-            started,
-            seed,
+            started: Instant::now(),
+            seed: seed(of_clock()),
         }
     }
 
@@ -41,7 +39,7 @@ impl Run {
 
     pub fn fail(&self, report: &str) -> ! {
         println!("test {} ... FAILED\n", self.test);
-        println!("seed {}\n{report}\n", self.seed);
+        println!("{VARIABLE}={}\n{report}\n", self.seed);
         println!(
             "test result: FAILED. 0 passed; 1 failed; 0 ignored; 0 measured; 0 filtered out\n"
         );
@@ -49,12 +47,7 @@ impl Run {
     }
 }
 
-fn seed() -> u64 {
-    match env::var("FINDER_SEED") {
-        Ok(text) => text.parse().expect("FINDER_SEED is a decimal number"),
-        Err(_) => {
-            let now = SystemTime::now().duration_since(UNIX_EPOCH);
-            now.expect("a clock past 1970").as_nanos() as u64
-        }
-    }
+fn of_clock() -> u64 {
+    let now = SystemTime::now().duration_since(UNIX_EPOCH);
+    now.expect("a clock past 1970").as_nanos() as u64
 }

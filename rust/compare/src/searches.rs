@@ -225,6 +225,7 @@ impl AnyRecord {
 mod tests {
     use super::*;
     use crate::search_coverage::Spoilt;
+    use random::seed::seed;
 
     fn is_spoilt(papers: &Papers, any: &AnyRecord) -> bool {
         let mut list = any.entries.clone();
@@ -234,7 +235,7 @@ mod tests {
 
     #[test]
     fn a_record_is_spoilt_only_by_being_spoilt() {
-        let mut random = Random::new(9);
+        let mut random = Random::new(seed(9));
         let mut spoilt = 0;
         for _ in 0..2_000 {
             let papers = Papers::searchable(&mut random);

@@ -8,6 +8,7 @@ use compare::damage::{a_few, damaged, Bounds};
 use compare::examples::examples;
 use compare::noise::noise;
 use plain::{desk, encode_file, encode_sheet};
+use random::seed::{seeds, VARIABLE};
 use random::Random;
 use std::fs;
 use std::path::{Path, PathBuf};
@@ -86,7 +87,7 @@ fn found(random: &mut Random, whole: Vec<u8>, bounds: &Bounds) -> Option<Vec<u8>
 fn random_folders_print_what_the_separate_finder_renders() {
     let mut explained = 0;
     let mut refused = 0;
-    for seed in 0..FOLDERS {
+    for seed in seeds(0, FOLDERS) {
         let mut random = Random::new(seed);
         let abducibles = random.between(0, 7);
         let others = random.between(1, 9);
@@ -100,7 +101,7 @@ fn random_folders_print_what_the_separate_finder_renders() {
         folder.put("causes", &file);
         folder.put("sheet", &sheet);
         let expected = desk(file.as_deref(), sheet.as_deref());
-        assert_eq!(printed(&folder.0), expected, "seed {seed}");
+        assert_eq!(printed(&folder.0), expected, "{VARIABLE}={seed}");
         explained += u64::from(expected.contains("\nfound "));
         refused += u64::from(expected.starts_with("refused "));
     }

@@ -3,14 +3,15 @@
 use compare::causes::{causes, query_of_heads};
 use native::{search, Found};
 use plain::Search;
+use random::seed::{seeds, VARIABLE};
 use random::Random;
 
-/// How many files are searched, each made from its number.
+/// How many files are searched, each made from a seed.
 const FILES: u64 = 2_000;
 
 #[test]
 fn it_finds_what_the_separate_finder_finds() {
-    for seed in 0..FILES {
+    for seed in seeds(0, FILES) {
         let mut random = Random::new(seed);
         let abducibles = random.below(6);
         let others = random.between(1, 5);
@@ -18,7 +19,7 @@ fn it_finds_what_the_separate_finder_finds() {
         let query = query_of_heads(&mut random, &program);
         let found = search(&program, &query);
         let expected = by_plain(Search::keeping(program, query));
-        assert_eq!(found, expected, "seed {seed}");
+        assert_eq!(found, expected, "{VARIABLE}={seed}");
     }
 }
 

@@ -2,6 +2,7 @@
 
 use calls::lent::list_pattern;
 use plain::{Atom, Literal, ObjectiveLiteral, Program, Query, Record, Rule, State};
+use random::seed::seed;
 use random::Random;
 
 use crate::lent::{continued, judged};
@@ -100,7 +101,7 @@ fn a_chain_and_many_rounds_at_once() {
 
 #[test]
 fn many_scenarios_of_a_random_program() {
-    let mut random = Random::new(17);
+    let mut random = Random::new(seed(17));
     let mut body = |least: usize| -> Vec<Literal> {
         (0..random.between(least, BODY))
             .map(|_| Literal(random.below(1_024) as u16))

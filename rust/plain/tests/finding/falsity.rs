@@ -5,6 +5,7 @@ use plain::{
     dual, model, next_false_by_dual, scenario_count, Dual, Form, Interpretation, JudgedSet,
     Literal, ObjectiveLiteral, Program, Valuation, Value,
 };
+use random::seed::seed;
 use random::Random;
 
 use crate::programs::program;
@@ -89,7 +90,7 @@ fn compare(program: &Program, dual: &Dual, scenario: u32, reached: &mut Reached)
 
 #[test]
 fn both_falsities_agree_on_random_programs() {
-    let mut random = Random::new(7);
+    let mut random = Random::new(seed(7));
     let mut reached = Reached::default();
     for _ in 0..PROGRAMS {
         let program = program(&mut random, 3, 5);

@@ -6,6 +6,7 @@ use plain::{
     minimal_explanations, scenario_count, stopping_point, ContinueRefusal, Continued, Program,
     Query, Record, Search, State,
 };
+use random::seed::seed;
 use random::Random;
 
 use crate::programs::{program, query};
@@ -177,7 +178,7 @@ fn go_through(random: &mut Random, search: &mut FreshSearch, reached: &mut Reach
 
 #[test]
 fn a_fresh_search_in_slices_finds_the_minimal_explanations() {
-    let mut random = Random::new(13);
+    let mut random = Random::new(seed(13));
     let mut reached = Reached::default();
     for _ in 0..PROGRAMS {
         let program = program(&mut random, 4, 4);

@@ -6,6 +6,7 @@ use plain::{
     dual, next_false_by_dual, scenario_count, Dual, Form, Interpretation, JudgedSet, Literal,
     ObjectiveLiteral, Program, Valuation, Value,
 };
+use random::seed::seed;
 use random::Random;
 
 use crate::programs::program;
@@ -147,7 +148,7 @@ impl Round<'_> {
 
 #[test]
 fn the_sets_of_each_round_are_least_and_greatest() {
-    let mut random = Random::new(11);
+    let mut random = Random::new(seed(11));
     let mut rounds = 0;
     for _ in 0..PROGRAMS {
         let program = program(&mut random, 1, 2);

@@ -10,6 +10,7 @@ use plain::{
     contains_assumptions, minimal_of, scenario_count, ContinueRefusal, Continued, Record, Search,
     State,
 };
+use random::seed::seed;
 use random::Random;
 
 use crate::programs::{program, query};
@@ -133,7 +134,7 @@ fn compare(random: &mut Random, search: &mut Search, reached: &mut Reached) {
 
 #[test]
 fn any_record_goes_by_the_general_rule() {
-    let mut random = Random::new(19);
+    let mut random = Random::new(seed(19));
     let mut reached = Reached::default();
     for _ in 0..PROGRAMS {
         let program = program(&mut random, 4, 4);
