@@ -1,5 +1,5 @@
 // The well-founded model of a scenario: its definitions stand in specs/, its laws in proofs/. The functions that make it are in the crates
-// lanes, closing and settling.
+// from lanes to valuation.
 ghost use mathlib.Core.Path.{_≡_};
 ghost use Prim.Native.Nat.{_^_, _≤_};
 

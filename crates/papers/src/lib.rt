@@ -1,5 +1,5 @@
 // What is read of the two papers, and what refuses a call. The definitions of reading stand in specs/, their laws in proofs/; the
-// functions that read are in the crates fields, reading and folds.
+// functions that read are in the crates numbered, fields, content, reading, rest and folds.
 ghost use mathlib.Core.Path.{_≡_};
 ghost use Rattle.papers.specs.Told.{bareNumber};
 
