@@ -14,7 +14,8 @@ use Rattle.papers.specs.Program.{Program, Query}
 use Rattle.papers.specs.Outcome.{accepted, check}
 use Rattle.papers.specs.Field.{numbers, fewest, most, lengthAllowed, readField}
 use Rattle.papers.specs.Content.{editionFault, atomsFault, abduciblesFault, literalsFault}
-use Rattle.papers.specs.Reading.{Run, readEdition, readAtoms, readAbducibles, firstRule, readRun, readEnd, ruleOf, programOf, readRules, readFile, readSheet}
+use Rattle.papers.specs.Reading.{Run, readEdition, readAtoms, readAbducibles, firstRule, readRun, readEnd, ruleOf, programOf}
+use Rattle.papers.specs.Reading.{readRules, readFile, readSheet}
 use Rattle.papers.specs.Encoding.{encodeNumbers, encodeField, encodeRun, ruleNumbers, encodeFile, encodeSheet}
 use Rattle.papers.specs.Valid.{ValidBody, Valid}
 use Rattle.papers.specs.Answers.{integrityPlace, endPlace}

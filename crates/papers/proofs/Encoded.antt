@@ -155,12 +155,13 @@ encoded-accepted p v =
     let at7F = after-run 0x05 place5 bytes (p .integrity) end at5 in
     let count = length-map (p .rules) ruleNumbers in
     let stop4 = run-begins 0x05 0x04 (p .integrity) end (omega arith) (unfold encodeField in omega arith) in
+    let stop5 : getD end 0 0 ≡ 0x05 → ⊥ = unfold encodeField in λ e. omega arith in
     rw (
       edition-encoded bytes from2 at1,
       atoms-encoded n bytes from3 at2 (v .someAtoms) (v .fewAtoms),
       abducibles-encoded n bytes from4 abducibles at3 (v .fewAbducibles) (v .abduciblesListed) (v .abduciblesRising),
       run-encoded 0x04 n abducibles bytes from5 stop4 1024 (firstRule abducibles) rules at4 (omega arith) (rules-fit n abducibles (v .rules)),
-      run-encoded 0x05 n abducibles bytes end (unfold encodeField in omega arith) 256 place5 (p .integrity) at5 (v .fewIntegrity) (bodies-fit n abducibles (v .integrity)),
+      run-encoded 0x05 n abducibles bytes end stop5 256 place5 (p .integrity) at5 (v .fewIntegrity) (bodies-fit n abducibles (v .integrity)),
       end-encoded File (place5 + fieldsLength (p .integrity)) bytes at7F,
       rules-back n abducibles (v .rules),
     )

@@ -28,7 +28,8 @@ pub record Got (paper : Paper) (tag : ℕ) (full : Bool) (place : ℕ) (bytes : 
   pub allowed : lengthAllowed tag (end - start) ≡ true
   pub room : full ≡ false
 
-module _ (paper : Paper) (tag : ℕ) (full : Bool) (place : ℕ) (bytes : List ℕ) {got : FieldRead} (is : got ≡ fieldAnswer place (readField paper tag full place bytes)) where
+module _ (paper : Paper) (tag : ℕ) (full : Bool) (place : ℕ) (bytes : List ℕ) {got : FieldRead}
+    (is : got ≡ fieldAnswer place (readField paper tag full place bytes)) where
   pub got-content : (start end : ℕ) → got ≡ Content start end → Got paper tag full place bytes start end
   got-content start end e = by (readField paper tag full place bytes) refl (sym is ∙ e) where
     by : (o : Outcome (List ℕ)) → readField paper tag full place bytes ≡ o → fieldAnswer place o ≡ Content start end → Got paper tag full place bytes start end
@@ -38,7 +39,8 @@ module _ (paper : Paper) (tag : ℕ) (full : Bool) (place : ℕ) (bytes : List �
         let s : place + 3 ≡ start = cc in
         let f : place + 3 + length content ≡ end = cc in
         let d : length content ≡ end - start = omega arith in
-        let p : content ≡ take (end - start) (drop start bytes) = w .content-is ∙ ap (λ (n : ℕ). take n (drop (place + 3) bytes)) d ∙ ap (λ (n : ℕ). take (end - start) (drop n bytes)) s in
+        let p : content ≡ take (end - start) (drop start bytes) =
+        w .content-is ∙ ap (λ (n : ℕ). take n (drop (place + 3) bytes)) d ∙ ap (λ (n : ℕ). take (end - start) (drop n bytes)) s in
         record {
           read = q ∙ ap accepted p;
           starts = sym s;

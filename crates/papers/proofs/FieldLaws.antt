@@ -35,7 +35,8 @@ faultless tag full bytes e =
     let f = checked _ 0 _ (d .1) in
     (leb-true _ _ (a .0), (eqb-true _ _ (b .0), (not-true _ (c .0), (d .0, leb-true _ _ (f .0)))))
 
-pub field-tells : (paper : Paper) (tag : ℕ) (full : Bool) (place : ℕ) (bytes content : List ℕ) → readField paper tag full place bytes ≡ accepted content → Whole tag full place bytes content
+pub field-tells : (paper : Paper) (tag : ℕ) (full : Bool) (place : ℕ) (bytes content : List ℕ)
+    → readField paper tag full place bytes ≡ accepted content → Whole tag full place bytes content
 unfolding readField contentOf
 field-tells paper tag full place bytes content e =
     let p = passed _ paper place _ e in

@@ -6,11 +6,12 @@ use mathlib.Core.List.{List}
 use Prim.Native.Nat.{ℕ, _+_, _-_, _≤_, _<_}
 use native.Mathlib.Omega.{arith}
 use borrow.Author.Tests.{le-leb, lt-leb, eq-eqb, ne-eqb}
+use lib.Dec.{leb}
 use lib.ListN.{length, getD, drop, length-drop}
 use lib.Seq.{getD-drop, length-take-le}
 use Rattle.papers.specs.declared.Paper.{Paper}
 use Rattle.papers.specs.declared.FieldRead.the-variants.{Content, Refused}
-use Rattle.papers.specs.Outcome.{accepted, refusal}
+use Rattle.papers.specs.Outcome.{accepted, refusal, check}
 use Rattle.papers.specs.Field.{number, sizeOf, contentOf, lengthAllowed, fieldFault, readField}
 use Rattle.papers.specs.Answers.{fieldAnswer}
 use Rattle.papers.proofs.Checks.{passing-refuses}
@@ -23,38 +24,48 @@ tag-there place bytes = getD-drop place bytes 0 0 ∙ ap (λ (i : ℕ). getD byt
 -- The length that a field gives, by the two bytes after its tag.
 pub size-there : (place : ℕ) (bytes : List ℕ) → sizeOf (drop place bytes) ≡ number (getD bytes (place + 1) 0) (getD bytes (place + 1 + 1) 0)
 unfolding sizeOf
-size-there place bytes = rw (getD-drop place bytes 1 0, getD-drop place bytes 2 0) (ap (λ (i : ℕ). number (getD bytes (place + 1) 0) (getD bytes i 0)) (omega arith))
+size-there place bytes =
+    rw (getD-drop place bytes 1 0, getD-drop place bytes 2 0)
+    (ap (λ (i : ℕ). number (getD bytes (place + 1) 0) (getD bytes i 0)) (omega arith))
 
 module _ (tag : ℕ) (full : Bool) (place : ℕ) (bytes : List ℕ) where
-  pub fault-cut : length bytes - place < 3 → 1 ≡ fieldFault tag full (drop place bytes)
-  unfolding fieldFault
-  fault-cut h = rw (length-drop place bytes, lt-leb 3 (length bytes - place) h)
+  abbrev fault : ℕ
+  fault = fieldFault tag full (drop place bytes)
 
-  module _ (heading : 3 ≤ length bytes - place) where
-    pub fault-stray : (getD bytes place 0 ≡ tag → ⊥) → 2 ≡ fieldFault tag full (drop place bytes)
+  -- How many bytes there are from the place on.
+  abbrev left : ℕ
+  left = length bytes - place
+
+  pub fault-cut : left < 3 → 1 ≡ fault
+  unfolding fieldFault
+  fault-cut h = rw (length-drop place bytes, lt-leb 3 left h)
+
+  module _ (heading : 3 ≤ left) where
+    pub fault-stray : (getD bytes place 0 ≡ tag → ⊥) → 2 ≡ fault
     unfolding fieldFault
-    fault-stray h = rw (length-drop place bytes, le-leb 3 (length bytes - place) heading, tag-there place bytes, ne-eqb (getD bytes place 0) tag h)
+    fault-stray h = rw (length-drop place bytes, le-leb 3 left heading, tag-there place bytes, ne-eqb (getD bytes place 0) tag h)
 
     module _ (tagged : getD bytes place 0 ≡ tag) where
-      pub fault-full : full ≡ true → 9 ≡ fieldFault tag full (drop place bytes)
+      pub fault-full : full ≡ true → 9 ≡ fault
       unfolding fieldFault
-      fault-full h = rw (length-drop place bytes, le-leb 3 (length bytes - place) heading, tag-there place bytes, eq-eqb (getD bytes place 0) tag tagged, h)
+      fault-full h = rw (length-drop place bytes, le-leb 3 left heading, tag-there place bytes, eq-eqb (getD bytes place 0) tag tagged, h)
 
       module _ (room : full ≡ false) {size : ℕ} (is : size ≡ number (getD bytes (place + 1) 0) (getD bytes (place + 1 + 1) 0)) where
-        sized : sizeOf (drop place bytes) ≡ size
-        sized = size-there place bytes ∙ sym is
-
-        pub fault-misfit : lengthAllowed tag size ≡ false → 3 ≡ fieldFault tag full (drop place bytes)
+        -- Heading, tag and count passed: the length is left, and the content.
+        by-size : fault ≡ check (lengthAllowed tag size) 3 (check (leb (3 + size) left) 1 0)
         unfolding fieldFault
-        fault-misfit h = rw (length-drop place bytes, le-leb 3 (length bytes - place) heading, tag-there place bytes, eq-eqb (getD bytes place 0) tag tagged, room, sized, h)
+        by-size =
+            let sized : sizeOf (drop place bytes) ≡ size = size-there place bytes ∙ sym is in
+            rw (length-drop place bytes, le-leb 3 left heading, tag-there place bytes, eq-eqb (getD bytes place 0) tag tagged, room, sized)
 
-        pub fault-short : lengthAllowed tag size ≡ true → length bytes - place - 3 < size → 1 ≡ fieldFault tag full (drop place bytes)
-        unfolding fieldFault
-        fault-short a h = rw (length-drop place bytes, le-leb 3 (length bytes - place) heading, tag-there place bytes, eq-eqb (getD bytes place 0) tag tagged, room, sized, a, lt-leb (3 + size) (length bytes - place) (omega arith))
+        pub fault-misfit : lengthAllowed tag size ≡ false → 3 ≡ fault
+        fault-misfit h = rw (by-size, h)
 
-        pub fault-none : lengthAllowed tag size ≡ true → size ≤ length bytes - place - 3 → 0 ≡ fieldFault tag full (drop place bytes)
-        unfolding fieldFault
-        fault-none a h = rw (length-drop place bytes, le-leb 3 (length bytes - place) heading, tag-there place bytes, eq-eqb (getD bytes place 0) tag tagged, room, sized, a, le-leb (3 + size) (length bytes - place) (omega arith))
+        pub fault-short : lengthAllowed tag size ≡ true → left - 3 < size → 1 ≡ fault
+        fault-short a h = rw (by-size, a, lt-leb (3 + size) left (omega arith))
+
+        pub fault-none : lengthAllowed tag size ≡ true → size ≤ left - 3 → 0 ≡ fault
+        fault-none a h = rw (by-size, a, le-leb (3 + size) left (omega arith))
 
 -- ---- the answer for a field
 

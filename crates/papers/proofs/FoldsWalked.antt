@@ -8,7 +8,7 @@ use lib.ListN.{length, getD, take, drop, length-drop}
 use lib.Seq.{length-take-le}
 use Rattle.papers.specs.declared.Contents.{Contents}
 use Rattle.papers.specs.declared.FileRead.the-variants.{Accepted}
-use Rattle.papers.specs.Program.{allRules, ruleAt}
+use Rattle.papers.specs.Program.{Rule, allRules, ruleAt}
 use Rattle.papers.specs.Outcome.{accepted}
 use Rattle.papers.specs.Field.{number, numbers, sizeOf}
 use Rattle.papers.specs.Reading.{readFile, programIn}
@@ -74,6 +74,16 @@ module _ (bytes : List ℕ) (contents : Contents) (answer : fileAnswer (readFile
 
 module _ (bytes : List ℕ) (contents : Contents) (places : List ℕ) (w : Walked bytes contents places) (b : Bytes bytes)
     (fold : ℕ) (here : fold < length (allRules (programIn bytes))) where
+  abbrev rule : Rule
+  rule = ruleAt (programIn bytes) fold
+
+  -- Where its field stands, and where the next one does.
+  abbrev place : ℕ
+  place = getD places fold 0
+
+  abbrev next : ℕ
+  next = foldPlace (programIn bytes) (fold + 1)
+
   is : readFile bytes ≡ accepted (programIn bytes)
   is = told bytes contents (w .answer) .is
 
@@ -89,34 +99,34 @@ module _ (bytes : List ℕ) (contents : Contents) (places : List ℕ) (w : Walke
   pub fold-few : fold < 1280
   fold-few = let c = counted in omega (arith, few-folds bytes contents (w .answer))
 
-  pub place-heading : getD places fold 0 + 2 < length bytes
+  pub place-heading : place + 2 < length bytes
   place-heading = let e = w .at fold here in omega (arith, fold-heading bytes contents (w .answer) b fold counted)
 
-  pub place-end : getD places fold 0 + 3 + sizeOf (drop (getD places fold 0) bytes) ≡ foldPlace (programIn bytes) (fold + 1)
+  pub place-end : place + 3 + sizeOf (drop place bytes) ≡ next
   place-end = next-place bytes contents (w .answer) b fold counted (w .at fold here)
 
-  head-few : (ruleAt (programIn bytes) fold) .head < 513
+  head-few : rule .head < 513
   head-few = let v = valid in let h = head-within (programIn bytes) v fold here in omega (arith, v .fewAtoms)
 
   -- A rule's head stands after the heading.
-  pub headed : fold < contents .rules .count → getD places fold 0 + 4 < length bytes
+  pub headed : fold < contents .rules .count → place + 4 < length bytes
   headed h =
       let r = rules-are in
       let e = w .at fold here in
       let p = rule-part bytes (programIn bytes) b is fold (omega arith) in
       omega (arith, p .ordered, p .within)
 
-  pub head-there : (h : fold < contents .rules .count) {r : ℕ} → r ≡ number (getD bytes (getD places fold 0 + 3) 0) (getD bytes (getD places fold 0 + 3 + 1) 0)
-      → (r ≡ (ruleAt (programIn bytes) fold) .head) × (r < 513)
+  pub head-there : (h : fold < contents .rules .count) {r : ℕ} → r ≡ number (getD bytes (place + 3) 0) (getD bytes (place + 3 + 1) 0)
+      → (r ≡ rule .head) × (r < 513)
   head-there h {r} q =
       let c = rules-are in
       let k = head-few in
-      let s : getD places fold 0 + 3 + 1 ≡ getD places fold 0 + 4 = omega arith in
+      let s : place + 3 + 1 ≡ place + 4 = omega arith in
       let e = rule-head bytes (programIn bytes) b is fold (omega arith) in
-      let f : r ≡ (ruleAt (programIn bytes) fold) .head = q ∙ rw (s, w .at fold here) e in
+      let f : r ≡ rule .head = q ∙ rw (s, w .at fold here) e in
       (f, omega arith)
 
-  pub head-falsum : contents .rules .count ≤ fold → (2 * contents .atoms ≡ (ruleAt (programIn bytes) fold) .head) × (2 * contents .atoms < 513)
+  pub head-falsum : contents .rules .count ≤ fold → (2 * contents .atoms ≡ rule .head) × (2 * contents .atoms < 513)
   head-falsum h =
       let c = rules-are in
       let a = atoms-are bytes contents (w .answer) in
@@ -125,19 +135,19 @@ module _ (bytes : List ℕ) (contents : Contents) (places : List ℕ) (w : Walke
       (omega arith, omega arith)
 
   -- The body is the part of the file between these.
-  pub body-there : (start end : ℕ) → end ≡ getD places fold 0 + 3 + sizeOf (drop (getD places fold 0) bytes)
-      → BodyAt bytes start (foldPlace (programIn bytes) (fold + 1)) ((ruleAt (programIn bytes) fold) .body)
-      → (start ≤ end) × ((end ≤ length bytes) × BodyOf (ruleAt (programIn bytes) fold) (take (end - start) (drop start bytes)))
+  pub body-there : (start end : ℕ) → end ≡ place + 3 + sizeOf (drop place bytes)
+      → BodyAt bytes start next (rule .body)
+      → (start ≤ end) × ((end ≤ length bytes) × BodyOf rule (take (end - start) (drop start bytes)))
   body-there start end e p =
-      let q : end ≡ foldPlace (programIn bytes) (fold + 1) = e ∙ place-end in
+      let q : end ≡ next = e ∙ place-end in
       let l : length (drop start bytes) ≡ length bytes - start = length-drop start bytes in
       let s : length (take (end - start) (drop start bytes)) ≡ end - start = length-take-le (end - start) (drop start bytes) (omega (arith, p .within)) in (
         omega (arith, p .ordered),
         (omega (arith, p .within), record { literals = rw q (p .is); size = s ∙ rw q (p .size) }),
       )
 
-  pub body-headed : fold < contents .rules .count → BodyAt bytes (getD places fold 0 + 5) (foldPlace (programIn bytes) (fold + 1)) ((ruleAt (programIn bytes) fold) .body)
+  pub body-headed : fold < contents .rules .count → BodyAt bytes (place + 5) next (rule .body)
   body-headed h = let c = rules-are in rw (w .at fold here) (rule-part bytes (programIn bytes) b is fold (omega arith))
 
-  pub body-bare : contents .rules .count ≤ fold → BodyAt bytes (getD places fold 0 + 3) (foldPlace (programIn bytes) (fold + 1)) ((ruleAt (programIn bytes) fold) .body)
+  pub body-bare : contents .rules .count ≤ fold → BodyAt bytes (place + 3) next (rule .body)
   body-bare h = let c = rules-are in rw (w .at fold here) (integrity-part bytes (programIn bytes) b is fold (omega arith) here)

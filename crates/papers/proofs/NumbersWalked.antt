@@ -32,9 +32,12 @@ module _ (content : List ℕ) (i : ℕ) where
       → numbers (drop (2 * i) content) ≡ number (getD content (2 * i) 0) (getD content (2 * i + 1) 0) ∷ numbers (drop (2 * (i + 1)) content)
   unfolding numbers
   next-number h =
-      ap numbers (drop-cons content (2 * i) 0 (omega arith) ∙ ap (λ (l : List ℕ). getD content (2 * i) 0 ∷ l) (drop-cons content (suc (2 * i)) 0 (omega arith)))
-      ∙ ap (λ (j : ℕ). number (getD content (2 * i) 0) (getD content j 0) ∷ numbers (drop (suc j) content)) (let e : suc (2 * i) ≡ 2 * i + 1 = omega arith in e)
-      ∙ ap (λ (j : ℕ). number (getD content (2 * i) 0) (getD content (2 * i + 1) 0) ∷ numbers (drop j content)) (let e : suc (2 * i + 1) ≡ 2 * (i + 1) = omega arith in e)
+      let high = getD content (2 * i) 0 in
+      let low : suc (2 * i) ≡ 2 * i + 1 = omega arith in
+      let rest : suc (2 * i + 1) ≡ 2 * (i + 1) = omega arith in
+      ap numbers (drop-cons content (2 * i) 0 (omega arith) ∙ ap (λ (l : List ℕ). high ∷ l) (drop-cons content (suc (2 * i)) 0 (omega arith)))
+      ∙ ap (λ (j : ℕ). number high (getD content j 0) ∷ numbers (drop (suc j) content)) low
+      ∙ ap (λ (j : ℕ). number high (getD content (2 * i + 1) 0) ∷ numbers (drop j content)) rest
 
   -- The same, where the i-th was read as x.
   pub read-number : i < length content / 2 → {x : ℕ} → x ≡ number (getD content (2 * i) 0) (getD content (2 * i + 1) 0)

@@ -14,7 +14,8 @@ use Rattle.papers.specs.Program.{Program, Query}
 use Rattle.papers.specs.Outcome.{Outcome, accepted, refused, refusal, check, passing, andThen}
 use Rattle.papers.specs.Field.{numbers, contentOf, fieldFault, readField}
 use Rattle.papers.specs.Content.{editionFault, atomsFault, abduciblesFault, literalsFault, bodyFault}
-use Rattle.papers.specs.Reading.{readEdition, readAtoms, readAbducibles, firstRule, oneMore, readRun, readEnd, readRules, readFile, readSheet, Papers, readPapers}
+use Rattle.papers.specs.Reading.{readEdition, readAtoms, readAbducibles, firstRule, oneMore, readRun, readEnd, readRules, readFile}
+use Rattle.papers.specs.Reading.{readSheet, Papers, readPapers}
 use Rattle.papers.specs.Answers.{paperOf}
 use Rattle.papers.proofs.Checks.{refused-not}
 use Rattle.papers.proofs.FieldLaws.{field-tells}
@@ -51,7 +52,8 @@ module _ {A B : Type 0} (paper : Paper) (bytes : List ℕ) where
 
 -- ---- the readers
 
-placed-field : (paper : Paper) (tag : ℕ) (full : Bool) (place : ℕ) (bytes : List ℕ) → place ≤ length bytes → Placed paper bytes (readField paper tag full place bytes)
+placed-field : (paper : Paper) (tag : ℕ) (full : Bool) (place : ℕ) (bytes : List ℕ) → place ≤ length bytes
+    → Placed paper bytes (readField paper tag full place bytes)
 unfolding readField
 placed-field paper tag full place bytes h =
     placed-passing paper bytes (fieldFault tag full (drop place bytes)) place (accepted (contentOf (drop place bytes))) h (placed-accepted paper bytes _)
@@ -151,7 +153,9 @@ refused-within file sheet r e = go (readFile file) refl e
         → andThen o (λ p. andThen (readSheet (p .atoms) sheet) (both p)) ≡ refused r
         → r .place ≤ length (paperOf (r .paper) file sheet)
     go (accepted p) is f =
-        let q = placed-then Sheet sheet (readSheet (p .atoms) sheet) (both p) (placed-sheet sheet (p .atoms)) (λ query g. placed-accepted Sheet sheet _) .at r f in
+        let n = p .atoms in
+        let placed = placed-then Sheet sheet (readSheet n sheet) (both p) (placed-sheet sheet n) (λ query g. placed-accepted Sheet sheet _) in
+        let q = placed .at r f in
         rw (q .0) (q .1)
     go (refused s) is f =
         let z : s ≡ r = cc in

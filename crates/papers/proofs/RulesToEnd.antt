@@ -35,58 +35,64 @@ contentsFrom n count rules next integrity last = record {
 }
 
 module _ (n count : ℕ) (bytes : List ℕ) (fits : 12 + 2 * count ≤ length bytes) where
-  pub listed-count : length (listedIn count bytes) ≡ count
+  abbrev listed : List ℕ
+  listed = listedIn count bytes
+
+  pub listed-count : length listed ≡ count
   listed-count =
       let l = length-take-le (2 * count) (drop 12 bytes) (omega (arith, length-drop 12 bytes)) in
       let e = count-numbers (take (2 * count) (drop 12 bytes)) in
       omega arith
 
-  pub rules-from : firstRule (listedIn count bytes) ≡ 12 + 2 * count
+  pub rules-from : firstRule listed ≡ 12 + 2 * count
   rules-from = let e = listed-count in omega arith
 
-  pub rules-refused : {r : Refusal} → readRun 0x04 n (listedIn count bytes) 1024 (12 + 2 * count) bytes ≡ refused r
-      → Refused r ≡ fileAnswer (readRules n (listedIn count bytes) bytes)
+  pub rules-refused : {r : Refusal} → readRun 0x04 n listed 1024 (12 + 2 * count) bytes ≡ refused r
+      → Refused r ≡ fileAnswer (readRules n listed bytes)
   unfolding readRules
   rules-refused e = rw (rules-from, e)
 
-  module _ {rules next : ℕ} (first : Ran (readRun 0x04 n (listedIn count bytes) 1024 (12 + 2 * count) bytes) rules next) where
-    rules-tell : RunTells 0x04 n (listedIn count bytes) 1024 (12 + 2 * count) bytes (first .run)
-    rules-tell = run-tells 0x04 n (listedIn count bytes) 1024 (12 + 2 * count) bytes (first .run) (λ e. omega arith) fits (first .is)
+  module _ {rules next : ℕ} (first : Ran (readRun 0x04 n listed 1024 (12 + 2 * count) bytes) rules next) where
+    rules-tell : RunTells 0x04 n listed 1024 (12 + 2 * count) bytes (first .run)
+    rules-tell = run-tells 0x04 n listed 1024 (12 + 2 * count) bytes (first .run) (λ e. omega arith) fits (first .is)
 
     pub rules-within : next ≤ length bytes
     rules-within = let t = rules-tell in let e = first .ends in omega (arith, t .within)
 
-    pub integrity-refused : {r : Refusal} → readRun 0x05 n (listedIn count bytes) 256 next bytes ≡ refused r
-        → Refused r ≡ fileAnswer (readRules n (listedIn count bytes) bytes)
+    pub integrity-refused : {r : Refusal} → readRun 0x05 n listed 256 next bytes ≡ refused r
+        → Refused r ≡ fileAnswer (readRules n listed bytes)
     unfolding readRules
     integrity-refused e = rw (rules-from, first .is, first .ends, e)
 
-    module _ {integrity last : ℕ} (second : Ran (readRun 0x05 n (listedIn count bytes) 256 next bytes) integrity last) where
-      integrity-tell : RunTells 0x05 n (listedIn count bytes) 256 next bytes (second .run)
-      integrity-tell = run-tells 0x05 n (listedIn count bytes) 256 next bytes (second .run) (λ e. omega arith) rules-within (second .is)
+    module _ {integrity last : ℕ} (second : Ran (readRun 0x05 n listed 256 next bytes) integrity last) where
+      integrity-tell : RunTells 0x05 n listed 256 next bytes (second .run)
+      integrity-tell = run-tells 0x05 n listed 256 next bytes (second .run) (λ e. omega arith) rules-within (second .is)
 
       pub integrity-within : last ≤ length bytes
       integrity-within = let t = integrity-tell in let e = second .ends in omega (arith, t .within)
 
-      pub end-refused : {r : Refusal} → readEnd File last bytes ≡ refused r → Refused r ≡ fileAnswer (readRules n (listedIn count bytes) bytes)
+      pub end-refused : {r : Refusal} → readEnd File last bytes ≡ refused r → Refused r ≡ fileAnswer (readRules n listed bytes)
       unfolding readRules
       end-refused e = rw (rules-from, first .is, first .ends, second .is, second .ends, e)
 
+      abbrev rule-fields : List (List ℕ)
+      rule-fields = map ruleNumbers (map ruleOf (first .run .contents))
+
       -- The places, by the program that was read.
-      next-is : firstRule (listedIn count bytes) + fieldsLength (map ruleNumbers (map ruleOf (first .run .contents))) ≡ next
+      next-is : firstRule listed + fieldsLength rule-fields ≡ next
       next-is =
           let t = rules-tell in
-          let e = ap fieldsLength (numbers-back n (listedIn count bytes) (t .bodies)) in
+          let e = ap fieldsLength (numbers-back n listed (t .bodies)) in
           omega (arith, t .next-is, first .ends, rules-from)
 
-      told : contentsOf (programOf n (listedIn count bytes) (first .run) (second .run)) ≡ contentsFrom n count rules next integrity last
+      told : contentsOf (programOf n listed (first .run) (second .run)) ≡ contentsFrom n count rules next integrity last
       told =
-          let a : length (listedIn count bytes) ≡ count = listed-count in
+          let a : length listed ≡ count = listed-count in
           let b : length (map ruleOf (first .run .contents)) ≡ rules = length-map (first .run .contents) ruleOf ∙ first .size in
-          let p : firstRule (listedIn count bytes) ≡ 12 + 2 * count = rules-from in
-          let q : firstRule (listedIn count bytes) + fieldsLength (map ruleNumbers (map ruleOf (first .run .contents))) ≡ next = next-is in
+          let p : firstRule listed ≡ 12 + 2 * count = rules-from in
+          let q : firstRule listed + fieldsLength rule-fields ≡ next = next-is in
           let t = integrity-tell in
-          let z : firstRule (listedIn count bytes) + fieldsLength (map ruleNumbers (map ruleOf (first .run .contents))) + fieldsLength (second .run .contents) ≡ last = omega (arith, t .next-is, second .ends) in
+          let z : firstRule listed + fieldsLength rule-fields + fieldsLength (second .run .contents) ≡ last = omega (arith, t .next-is, second .ends) in
           λ i. record {
             atoms = n;
             abducibles = a i;
@@ -96,6 +102,6 @@ module _ (n count : ℕ) (bytes : List ℕ) (fits : 12 + 2 * count ≤ length by
           }
 
       pub all-accepted : {end : ℕ} → readEnd File last bytes ≡ accepted end
-          → Accepted (contentsFrom n count rules next integrity last) ≡ fileAnswer (readRules n (listedIn count bytes) bytes)
+          → Accepted (contentsFrom n count rules next integrity last) ≡ fileAnswer (readRules n listed bytes)
       unfolding readRules
       all-accepted e = rw (rules-from, first .is, first .ends, second .is, second .ends, e) (ap Accepted (sym told))

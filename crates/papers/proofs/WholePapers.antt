@@ -61,7 +61,8 @@ module _ (bytes : List ℕ) where
             let l : 2 * length (numbers (f .value)) ≡ length (f .value) = length-numbers (f .value) (allowed-even 0x03 _ (λ e. omega arith) (field .allowed)) in
             let s = ap length is in
             let k : length (f .value) ≡ 2 * count = omega (arith, listed .size) in
-            (omega (arith, field .within), listed .is ∙ ap accepted (sym is ∙ ap numbers (field .content-is) ∙ ap (λ (m : ℕ). numbers (take m (drop 12 bytes))) k))
+            let there = ap numbers (field .content-is) ∙ ap (λ (m : ℕ). numbers (take m (drop 12 bytes))) k in
+            (omega (arith, field .within), listed .is ∙ ap accepted (sym is ∙ there))
 
         pub file-rules : fileAnswer (readRules n (listedIn count bytes) bytes) ≡ fileAnswer (readFile bytes)
         unfolding readFile
@@ -69,7 +70,8 @@ module _ (bytes : List ℕ) where
 
 -- ---- the sheet
 
-module _ (n : ℕ) (bytes content : List ℕ) (read : readField Sheet 0x06 false 0 bytes ≡ accepted content) {fault : ℕ} (is : fault ≡ literalsFault n (numbers content)) where
+module _ (n : ℕ) (bytes content : List ℕ) (read : readField Sheet 0x06 false 0 bytes ≡ accepted content) {fault : ℕ}
+    (is : fault ≡ literalsFault n (numbers content)) where
   pub sheet-fault : (fault ≡ 0 → ⊥) → number.Refused (refusal fault Sheet 0) ≡ countAnswer (readSheet n bytes)
   unfolding readSheet
   sheet-fault h = rw (read, ← is, passing-refuses fault Sheet 0 _ h)
@@ -99,7 +101,8 @@ module _ (file sheet : List ℕ) where
     unfolding readPapers
     papers-sheet e = rw (filed .is, atoms-are, e)
 
-    pub papers-both : {literals : ℕ} → Listed (readSheet (contents .atoms) sheet) literals → papers.Accepted contents literals ≡ papersAnswer (readPapers file sheet)
+    pub papers-both : {literals : ℕ} → Listed (readSheet (contents .atoms) sheet) literals
+        → papers.Accepted contents literals ≡ papersAnswer (readPapers file sheet)
     unfolding readPapers
     papers-both query =
         let q : readSheet (filed .program .atoms) sheet ≡ accepted (query .list) = rw atoms-are (query .is) in
