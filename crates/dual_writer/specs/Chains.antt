@@ -5,7 +5,10 @@ use lib.Dec.{ltb}
 use mathlib.Core.List.{List, [], _∷_}
 use Prim.Native.Nat.{ℕ, zero, suc, _<_}
 use lib.ListN.{getD}
+use Rattle.papers.specs.declared.Contents.{Contents}
 use Rattle.papers.specs.Program.{Program}
+use Rattle.papers.specs.Reading.{programIn}
+use Rattle.papers.specs.Places.{Walked}
 use Rattle.dual.specs.Table.{foldsOf}
 
 -- From k on, the chain has these folds, rising.
@@ -24,3 +27,8 @@ foldsAt next k = followed 1280 next k
 -- Each objective literal's chain has its folds.
 pub record ChainsOf (p : Program) (first next : List ℕ) : Type 0 where
   pub at : (o : ℕ) → o < 513 → Chain next (getD first o 0) (foldsOf p o)
+
+-- An accepted file with the places of its folds, and its chains.
+pub record Chained (file : List ℕ) (contents : Contents) (places first next : List ℕ) : Type 0 where
+  pub walked : Walked file contents places
+  pub chains : ChainsOf (programIn file) first next

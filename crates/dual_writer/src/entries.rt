@@ -8,13 +8,12 @@ ghost use Rattle.papers.specs.declared.FileRead.{FileRead};
 ghost use Rattle.papers.specs.Content.{isAmong};
 ghost use Rattle.papers.specs.Reading.{readFile, programIn};
 ghost use Rattle.papers.specs.Answers.{fileAnswer};
-ghost use Rattle.papers.specs.Places.{Walked};
 ghost use lib.ListN.{length};
 ghost use Rattle.dual.specs.Table.{hasEntry, isFact, entry, entryIfAny, dual};
 ghost use Rattle.dual.specs.TableEncoding.{encodeFields};
 ghost use Rattle.dual.specs.Bytes.{Fills};
 ghost use Rattle.dual.specs.Length.{rulesLength, dualLength};
-ghost use Rattle.dual_writer.specs.Chains.{ChainsOf};
+ghost use Rattle.dual_writer.specs.Chains.{Chained};
 use crate::chains::next_fold;
 use crate::writing::write_fold;
 use crate::writing::write_literal;
@@ -32,7 +31,7 @@ fn rules_length(
     next: &[usize; 1280],
     o: Objective,
 ) -> usize
-    requires { ⌜ Walked (now file) contents (now places) × (ChainsOf (programIn (now file)) (now first) (now next) × (o .0 < 513)) ⌝ }
+    requires { ⌜ Chained (now file) contents (now places) (now first) (now next) × (o .0 < 513) ⌝ }
     ensures { λ r. ⌜ (r ≡ cond (isFact (allRules (programIn (now (file .entry)))) (o .0)) 0 (5 + rulesLength (allRules (programIn (now (file .entry)))) (o .0)))
         × (r < 65536) ⌝ }
 {
@@ -73,7 +72,7 @@ pub(crate) fn entry_length(
     next: &[usize; 1280],
     o: Objective,
 ) -> usize
-    requires { ⌜ Walked (now file) contents (now places) × (ChainsOf (programIn (now file)) (now first) (now next) × (o .0 < 513)) ⌝ }
+    requires { ⌜ Chained (now file) contents (now places) (now first) (now next) × (o .0 < 513) ⌝ }
     ensures { λ r. ⌜ (r ≡ cond (hasEntry (programIn (now (file .entry))) (o .0)) (5 + rulesLength (allRules (programIn (now (file .entry)))) (o .0)) 0)
         × (r < 65536) ⌝ }
 {
@@ -91,7 +90,7 @@ pub(crate) fn dual_length(
     first: &[usize; 513],
     next: &[usize; 1280],
 ) -> usize
-    requires { ⌜ Walked (now file) contents (now places) × ChainsOf (programIn (now file)) (now first) (now next) ⌝ }
+    requires { ⌜ Chained (now file) contents (now places) (now first) (now next) ⌝ }
     ensures { λ r. ⌜ r ≡ dualLength (programIn (now (file .entry))) ⌝ }
 {
     let judged = literals::judged(contents.atoms);
@@ -115,12 +114,8 @@ fn write_entry(
     next: &[usize; 1280],
     o: Objective,
 ) -> usize
-    requires { ⌜
-        Walked (now file) contents (now places)
-        × (ChainsOf (programIn (now file)) (now first) (now next)
-        × ((o .0 < 513)
-        × (length (encodeFields (entry (programIn (now file)) (o .0))) ≤ length (now buffer))))
-        ⌝ }
+    requires { ⌜ Chained (now file) contents (now places) (now first) (now next) × ((o .0 < 513)
+        × (length (encodeFields (entry (programIn (now file)) (o .0))) ≤ length (now buffer))) ⌝ }
     ensures { λ r. ⌜ Fills (encodeFields (entry (programIn (now (file .entry))) (o .0))) (now (buffer .entry)) r (now (buffer .exit)) ⌝ }
 {
     let at = o.0;
@@ -147,12 +142,8 @@ fn write_any_entry(
     next: &[usize; 1280],
     o: Objective,
 ) -> usize
-    requires { ⌜
-        Walked (now file) contents (now places)
-        × (ChainsOf (programIn (now file)) (now first) (now next)
-        × ((o .0 < 513)
-        × (length (encodeFields (entryIfAny (programIn (now file)) (o .0))) ≤ length (now buffer))))
-        ⌝ }
+    requires { ⌜ Chained (now file) contents (now places) (now first) (now next) × ((o .0 < 513)
+        × (length (encodeFields (entryIfAny (programIn (now file)) (o .0))) ≤ length (now buffer))) ⌝ }
     ensures { λ r. ⌜ Fills (encodeFields (entryIfAny (programIn (now (file .entry))) (o .0))) (now (buffer .entry)) r (now (buffer .exit)) ⌝ }
 {
     if entry_length(file, contents, places, first, next, o) == 0 {
@@ -170,11 +161,8 @@ pub(crate) fn write_entries(
     first: &[usize; 513],
     next: &[usize; 1280],
 ) -> usize
-    requires { ⌜
-        Walked (now file) contents (now places)
-        × (ChainsOf (programIn (now file)) (now first) (now next)
-        × (dualLength (programIn (now file)) ≤ length (now buffer)))
-        ⌝ }
+    requires { ⌜ Chained (now file) contents (now places) (now first) (now next)
+        × (dualLength (programIn (now file)) ≤ length (now buffer)) ⌝ }
     ensures { λ r. ⌜ Fills (encodeFields (dual (programIn (now (file .entry))))) (now (buffer .entry)) r (now (buffer .exit)) ⌝ }
 {
     let judged = literals::judged(contents.atoms);

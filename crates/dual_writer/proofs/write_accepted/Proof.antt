@@ -12,6 +12,7 @@ use Rattle.papers.specs.Reading.{readFile, programIn}
 use Rattle.papers.proofs.FileFacts.{told}
 use Rattle.papers.proofs.NumbersWalked.{to-end}
 use Rattle.dual.proofs.FilledLaws.{put-end}
+use Rattle.dual_writer.specs.Chains.{Chained}
 use Rattle.dual_writer.proofs.TableWriting.{table-length, end-written, dual-short, dual-length-is, dual-fits}
 use borrow.Author.Needs.{needs}
 use Rattle.dual_writer.proofs.write_accepted.Statement.{statement}
@@ -26,6 +27,15 @@ module _ (c : tie.Start) where
   read : readFile (now (c .args .file)) ≡ accepted program
   read = told (now (c .args .file)) (c .args .contents) (c .pre .answer) .is
 
+-- ---- once the folds are chained
+
+module _ (c : tie.After-fold-chains) where
+  abbrev begun : tie.Start
+  begun = c .before .before .before
+
+  linked : Chained (now (begun .args .file)) (begun .args .contents) (now (begun .args .places)) (c .fold-chains .result .first) (c .fold-chains .result .next)
+  linked = record { walked = begun .pre; chains = c .fold-chains .ensures }
+
 -- ---- once the dual's length is known
 
 module _ (c : tie.After-dual-length) where
@@ -33,7 +43,7 @@ module _ (c : tie.After-dual-length) where
   chained = c .before .before .before .before .before
 
   abbrev start : tie.Start
-  start = chained .before .before .before
+  start = begun chained
 
 -- ---- once the entries are written
 
@@ -55,7 +65,7 @@ fold-chains-requires : tie.Need-fold-chains-requires
 fold-chains-requires c κs = search needs
 
 dual-length-requires : tie.Need-dual-length-requires
-dual-length-requires c κs = search needs
+dual-length-requires c κs = linked (c .before .before .before .before)
 
 returns : tie.Need-returns
 returns c =
@@ -75,7 +85,7 @@ write-entries-requires : tie.Need-write-entries-requires
 write-entries-requires c κs =
     let long = c .before .before .before .before in
     let counted = long .before in
-    (start counted .pre, (chained counted .fold-chains .ensures, omega (arith, counted .dual-length .ensures, long .if1 .left)))
+    (linked (chained counted), omega (arith, counted .dual-length .ensures, long .if1 .left))
 
 sub-write-end : tie.Need-sub-write-end
 sub-write-end c = omega (arith, room (c .before .before))

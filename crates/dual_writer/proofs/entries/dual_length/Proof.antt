@@ -35,7 +35,7 @@ module _ (c : tie.After-judged Inv-loop μ-loop) where
   count = c .judged .result
 
   counted : count ≡ judged (program .atoms)
-  counted = c .judged .ensures ∙ ap judged (sym (atoms-are (now (start .args .file)) (start .args .contents) (start .pre .0 .answer)))
+  counted = c .judged .ensures ∙ ap judged (sym (atoms-are (now (start .args .file)) (start .args .contents) (start .pre .walked .answer)))
 
   length-is : dualLength program ≡ entriesLength program count 0 + 3
   unfolding dualLength
@@ -43,7 +43,7 @@ module _ (c : tie.After-judged Inv-loop μ-loop) where
 
   -- All of them fit.
   whole : entriesLength program count 0 + 3 ≤ 52488
-  whole = rw (← length-is) (dual-bound program (program-valid (now (start .args .file)) (start .args .contents) (start .pre .0 .answer)))
+  whole = rw (← length-is) (dual-bound program (program-valid (now (start .args .file)) (start .args .contents) (start .pre .walked .answer)))
 
 -- ---- in a turn of the loop
 
@@ -69,8 +69,8 @@ loop-holds c =
 entry-length-requires : tie.Need-entry-length-requires Inv-loop μ-loop
 entry-length-requires c κs =
     let s = start (c .before .before) in
-    let few = few-atoms (now (s .args .file)) (s .args .contents) (s .pre .0 .answer) in
-    (s .pre .0, (s .pre .1, omega (arith, c .before .before .judged .ensures)))
+    let few = few-atoms (now (s .args .file)) (s .args .contents) (s .pre .walked .answer) in
+    (s .pre, omega (arith, c .before .before .judged .ensures))
 
 add-total : tie.Need-add-total Inv-loop μ-loop
 add-total c = let w = whole (known c) in let n = next c in omega arith

@@ -10,7 +10,7 @@ use Rattle.dual_writer.proofs.entries.entry_length.Statement.{statement
 use Rattle.dual_writer.proofs.entries.entry_length.Tie as tie
 
 is-abducible-requires : tie.Need-is-abducible-requires
-is-abducible-requires c κs = c .before .pre .0 .answer
+is-abducible-requires c κs = c .before .pre .0 .walked .answer
 
 returns : tie.Need-returns
 returns c =

@@ -48,7 +48,7 @@ module _ (c : tie.Then1 Inv-loop μ-loop) where
   here = walk-fold (program head) (next head) (o head) (fold head) (head .loop .total) (head .loop .inv) (c .if1 .taken)
 
   few : length ((ruleAt (program head) (fold head)) .body) ≤ 16
-  few = few-body (now (start head .args .file)) (start head .args .contents) (start head .pre .0 .answer) (fold head) (here .below)
+  few = few-body (now (start head .args .file)) (start head .args .contents) (start head .pre .0 .walked .answer) (fold head) (here .below)
 
   rises : fold head < getD (next head) (fold head) 0
   rises = walk-rises (program head) (next head) (o head) (fold head) (head .loop .total) (head .loop .inv) (c .if1 .taken)
@@ -57,16 +57,16 @@ mul-start : tie.Need-mul-start Inv-loop μ-loop
 mul-start c = omega arith
 
 element-copy-out-start : tie.Need-element-copy-out-start Inv-loop μ-loop
-element-copy-out-start c = c .before .pre .1 .1
+element-copy-out-start c = c .before .pre .1
 
 loop-holds : tie.Need-loop-holds Inv-loop μ-loop
 loop-holds c =
     let s = c .before .before in
     let a = s .args in
-    (walk-starts (programIn (now (a .file))) (now (a .first)) (now (a .next)) (a .o .0) (s .pre .1 .0) (s .pre .1 .1))
+    (walk-starts (programIn (now (a .file))) (now (a .first)) (now (a .next)) (a .o .0) (s .pre .0 .chains) (s .pre .1))
 
 body-of-requires : tie.Need-body-of-requires Inv-loop μ-loop
-body-of-requires c κs = (start (head c) .pre .0, here c .below)
+body-of-requires c κs = (start (head c) .pre .0 .walked, here c .below)
 
 returns : tie.Need-returns Inv-loop μ-loop
 returns c =

@@ -33,7 +33,7 @@ returns c =
 write-entry-requires : tie.Need-write-entry-requires
 write-entry-requires c κs =
     let pre = start (c .before) .pre in
-    (pre .0, (pre .1 .0, (pre .1 .1 .0, rw (is (c .before)) at (pre .1 .1 .1))))
+    (pre .0, (pre .1 .0, rw (is (c .before)) at (pre .1 .1)))
 
 same-length : tie.Need-same-length
 same-length c = search needs

@@ -35,7 +35,7 @@ module _ (c : tie.Start Inv-loop μ-loop) where
   program = programIn (now (c .args .file))
 
   atoms : program .atoms ≡ c .args .contents .atoms
-  atoms = atoms-are (now (c .args .file)) (c .args .contents) (c .pre .0 .answer)
+  atoms = atoms-are (now (c .args .file)) (c .args .contents) (c .pre .0 .walked .answer)
 
 -- ---- at the loop's head
 
@@ -58,7 +58,7 @@ room : (c : tie.In-loop Inv-loop μ-loop) → c .before .loop .end + length (ent
 room c =
     let s = start (c .before) in
     let enough = table-room (program s) (known (c .before) .judged .result) (c .before .loop .o) (counted (c .before)) (c .loop-test .taken) in
-    omega (arith, c .before .loop .inv .1 .0 .ends, enough, s .pre .1 .1)
+    omega (arith, c .before .loop .inv .1 .0 .ends, enough, s .pre .1)
 
 judged-requires : tie.Need-judged-requires Inv-loop μ-loop
 judged-requires c κs = search needs
@@ -84,8 +84,8 @@ write-any-entry-requires c κs =
     let r = room (c .before) in
     let p = ap length (to-end (at .end) (at .buffer)) in
     let d = length-drop (at .end) (at .buffer) in
-    let few = few-atoms (now (s .args .file)) (s .args .contents) (s .pre .0 .answer) in
-    (s .pre .0, (s .pre .1 .0, (omega (arith, known (c .before .before) .judged .ensures), omega (arith, at .inv .1 .1))))
+    let few = few-atoms (now (s .args .file)) (s .args .contents) (s .pre .0 .walked .answer) in
+    (s .pre .0, (omega (arith, known (c .before .before) .judged .ensures), omega (arith, at .inv .1 .1)))
 
 add-end : tie.Need-add-end Inv-loop μ-loop
 add-end c = omega (arith, room (c .before .before .before .before), c .before .before .write-any-entry .ensures .0)

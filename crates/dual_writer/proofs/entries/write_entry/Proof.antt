@@ -41,10 +41,10 @@ module _ (c : tie.Start Inv-loop μ-loop) where
   folds = foldsOf program (c .args .o .0)
 
   followed : foldsAt (now (c .args .next)) (getD (now (c .args .first)) (c .args .o .0) 0) ≡ folds
-  followed = folds-there program (now (c .args .first)) (now (c .args .next)) (c .args .o .0) (c .pre .1 .0) (c .pre .1 .1 .0)
+  followed = folds-there program (now (c .args .first)) (now (c .args .next)) (c .args .o .0) (c .pre .0 .chains) (c .pre .1 .0)
 
   chain : Chain (now (c .args .next)) (getD (now (c .args .first)) (c .args .o .0) 0) folds
-  chain = c .pre .1 .0 .at (c .args .o .0) (c .pre .1 .1 .0)
+  chain = c .pre .0 .chains .at (c .args .o .0) (c .pre .1 .0)
 
 -- ---- once the literal's field is written
 
@@ -104,7 +104,7 @@ mul-number : tie.Need-mul-number Inv-loop μ-loop
 mul-number c = omega arith
 
 element-copy-out-number : tie.Need-element-copy-out-number Inv-loop μ-loop
-element-copy-out-number c = c .before .before .pre .1 .1 .0
+element-copy-out-number c = c .before .before .pre .1 .0
 
 write-literal-requires : tie.Need-write-literal-requires Inv-loop μ-loop
 write-literal-requires c κs =
@@ -121,7 +121,7 @@ loop-holds c =
     (entered-none (program s) (now (s .args .next)) (s .args .o .0) (l .result) (l .last .0) _ (omega (arith, fits w)) (chain s), refl)
 
 body-of-requires : tie.Need-body-of-requires Inv-loop μ-loop
-body-of-requires c κs = (start (literal c) .pre .0, of-literal c .below)
+body-of-requires c κs = (start (literal c) .pre .0 .walked, of-literal c .below)
 
 sub-write-fold : tie.Need-sub-write-fold Inv-loop μ-loop
 sub-write-fold c = omega (arith, room (c .before))
@@ -143,7 +143,7 @@ write-fold-requires c κs =
     let o = one-length (allRules (program s)) (at .fold .0) in
     let p = ap length (to-end (at .end) (at .buffer)) in
     let d = length-drop (at .end) (at .buffer) in
-    let few = few-body (now (s .args .file)) (s .args .contents) (s .pre .0 .answer) (at .fold .0) (of-literal turn .below) in
+    let few = few-body (now (s .args .file)) (s .args .contents) (s .pre .0 .walked .answer) (at .fold .0) (of-literal turn .below) in
     (omega (arith, body .size), (omega arith, (omega (arith, body .size), omega (arith, body .size))))
 
 add-end : tie.Need-add-end Inv-loop μ-loop
@@ -180,7 +180,7 @@ returns c =
     let d = entered-done _ _ _ _ _ _ _ _ (c .before .before .loop .inv .0) (fits w) (c .if1 .left) in
     let q : l .last .0 ≡ filled (encodeField 0x08 (encodeNumbers (a .o .0 ∷ folds s))) (now (a .buffer)) = rw (followed s) at (l .ensures .1) in (
       omega (arith, base w, d .0, entry-parts (program s) (a .o .0)),
-      entry-written (program s) (a .o .0) (l .result) (now (a .buffer)) (l .last .0) (c .before .before .loop .buffer) (base w) (s .pre .1 .1 .1) q (d .1),
+      entry-written (program s) (a .o .0) (l .result) (now (a .buffer)) (l .last .0) (c .before .before .loop .buffer) (base w) (s .pre .1 .1) q (d .1),
     )
 
 pub write-entry-spec : {M : Type 1} → statement M
