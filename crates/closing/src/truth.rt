@@ -1,6 +1,6 @@
 // The true set, in 64 scenarios at once: part by part, each by passes over its rules until one changes nothing.
 ghost use lib.ListN.{length};
-ghost use Rattle.parts.specs.Parts.{placeOf, Parted};
+ghost use Rattle.parts.specs.Parts.{Parted};
 ghost use Rattle.closing.specs.Closing.{ruleIn, rulesIn, RuleStands, RulesStand, Raised, Passed, ClosedTrue};
 use decoded::number_in;
 use decoded::objective_in;

@@ -8,7 +8,6 @@ use native.Mathlib.Omega.{arith}
 use lib.Dec.{T, eqb→eq, eqb-refl}
 use lib.ListN.{length, getD}
 use Rattle.papers.specs.Program.{Rule, noRule}
-use Rattle.papers.specs.Tests.{_or_}
 use Rattle.model.specs.Sets.{Set}
 use Rattle.model.specs.LeastSet.{bodyHolds, supported}
 use Rattle.papers.proofs.TestLaws.{both, left, right, either, either-left, either-right}

@@ -1,6 +1,5 @@
 // The first and the last line that the desk program prints, and that of a refusal, each written into a lent buffer from a place on.
 // Each function answers the place after its line, which is at most 512 bytes long; bytes past the buffer's end are left out.
-ghost use mathlib.Core.Path.{_≡_};
 ghost use mathlib.Core.List.{_∷_, _++_};
 ghost use Prim.Native.Nat.{_+_, _<_, _≤_, _^_};
 ghost use Rattle.decimals.specs.Decimal.{decimal};

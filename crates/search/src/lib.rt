@@ -1,6 +1,5 @@
 // The search for minimal explanations.
 ghost use mathlib.Core.Path.{_≡_};
-ghost use lib.ListN.{length};
 ghost use Rattle.papers.specs.declared.PapersRead.{PapersRead};
 ghost use Rattle.papers.specs.Reading.{readPapers};
 ghost use Rattle.papers.specs.Answers.{papersAnswer};

@@ -1,7 +1,7 @@
 -- What a decided step leaves, and how steps one by one are the steps of up to 64 scenarios.
 -- Assumes nothing.
 use mathlib.Core.Path.{_≡_, refl, sym, ap, subst, _∙_}
-use mathlib.Core.Bool.{Bool, not}
+use mathlib.Core.Bool.{Bool}
 use mathlib.Core.List.{List}
 use Prim.Native.Nat.{ℕ, _+_, _<_, _≤_}
 use native.Mathlib.Omega.{arith}
@@ -13,7 +13,7 @@ use Rattle.stepping.specs.declared.Move.{Move as Told}
 use Rattle.stepping.specs.declared.Move.the-variants.{Stands, Tries, Writes}
 use Rattle.stepping.specs.declared.Progress.{Progress}
 use Rattle.steps.specs.Explanations.{Problem}
-use Rattle.steps.specs.Continuing.{containsOne, newTo, work, step, steps}
+use Rattle.steps.specs.Continuing.{newTo, work, step, steps}
 use Rattle.stepping.specs.Stepping.{workOf, Decided, Kept, LaneReady, LaneTried, InLanes, LanesTried}
 use Rattle.stepping.specs.Containing.{Without}
 use Rattle.steps.proofs.Steps.{step-stands, step-tries, step-writes}

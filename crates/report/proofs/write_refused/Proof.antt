@@ -2,7 +2,6 @@
 -- Assumes nothing.
 use mathlib.Core.List.{[], _∷_, append-nil}
 use native.Mathlib.Omega.{arith}
-use denote.Ref.{now}
 use borrow.Author.Needs.{needs}
 use Rattle.decimals.specs.Decimal.{decimal}
 use Rattle.decimals.specs.Text.{spaced}
