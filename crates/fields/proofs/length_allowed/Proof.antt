@@ -22,7 +22,10 @@ mul-if3 c = search needs
 
 returns-3 : tie.Need-returns-3
 unfolding lengthAllowed
-returns-3 c = rw (ne-eqb _ 1 (c .before .before .before .if1 .left), eq-eqb _ 0 (c .before .before .if2 .left), ← c .before .fewest-numbers .ensures .0, lt-leb _ _ (c .if3 .taken))
+returns-3 c =
+    let counted = c .before in
+    let even = counted .before in
+    rw (ne-eqb _ 1 (even .before .if1 .left), eq-eqb _ 0 (even .if2 .left), ← counted .fewest-numbers .ensures .0, lt-leb _ _ (c .if3 .taken))
 
 most-numbers-requires : tie.Need-most-numbers-requires
 most-numbers-requires c κs = search needs
@@ -32,7 +35,17 @@ mul-result c = search needs
 
 returns-4 : tie.Need-returns-4
 unfolding lengthAllowed
-returns-4 c = rw (ne-eqb _ 1 (c .before .before .before .before .if1 .left), eq-eqb _ 0 (c .before .before .before .if2 .left), ← c .before .before .fewest-numbers .ensures .0, le-leb _ _ (c .before .if3 .left), c .most-numbers .ensures .0)
+returns-4 c =
+    let enough = c .before in
+    let counted = enough .before in
+    let even = counted .before in
+    rw (
+      ne-eqb _ 1 (even .before .if1 .left),
+      eq-eqb _ 0 (even .if2 .left),
+      ← counted .fewest-numbers .ensures .0,
+      le-leb _ _ (enough .if3 .left),
+      c .most-numbers .ensures .0,
+    )
 
 pub length-allowed-spec : {M : Type 1} → statement M
 length-allowed-spec =
