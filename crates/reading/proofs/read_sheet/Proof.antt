@@ -20,8 +20,11 @@ use Rattle.reading.proofs.read_sheet.Tie as tie
 -- ---- once the field is whole
 
 module _ (c : tie.After-known-told) where
+  abbrev asked : tie.After-read-field
+  asked = c .before .before .before
+
   abbrev start : tie.Start
-  start = c .before .before .before .before .before
+  start = asked .before .before
 
   abbrev sheet : List ℕ
   sheet = now (start .args .sheet)
@@ -33,7 +36,7 @@ module _ (c : tie.After-known-told) where
   end = c .before .got .given .0 .1 .0
 
   field : Got Sheet 0x06 false 0 sheet from end
-  field = got-content Sheet 0x06 false 0 sheet (c .before .before .before .read-field .ensures) _ _ (c .before .got .given .1)
+  field = got-content _ _ _ _ _ (asked .read-field .ensures) _ _ (c .before .got .given .1)
 
   -- It ends where the next one is read.
   ends : end ≡ 3 + length (take (end - from) (drop from sheet))
@@ -60,17 +63,19 @@ returns c = search needs
 returns-2 : tie.Need-returns-2
 unfolding readSheet
 returns-2 c =
-    let asked = c .before .before .before .before .before .before in
-    rw (got-refused Sheet 0x06 false 0 (now (asked .before .before .args .sheet)) (asked .read-field .ensures) (c .before .before .before .before .got2 .given .1 ∙ c .before .got3 .given .1))
+    let other = c .before .before .before .before in
+    let asked = other .before .before in
+    let a = asked .before .before .args in
+    rw (got-refused Sheet 0x06 false 0 (now (a .sheet)) (asked .read-field .ensures) (other .got2 .given .1 ∙ c .before .got3 .given .1))
 
 sub-literals-fault : tie.Need-sub-literals-fault
-sub-literals-fault c = omega (arith, field c .ordered)
+sub-literals-fault c = field c .ordered
 
 part-literals-fault-start : tie.Need-part-literals-fault-start
-part-literals-fault-start c = omega (arith, field c .ordered)
+part-literals-fault-start c = field c .ordered
 
 part-literals-fault-end : tie.Need-part-literals-fault-end
-part-literals-fault-end c = omega (arith, field c .within)
+part-literals-fault-end c = field c .within
 
 literals-fault-requires : tie.Need-literals-fault-requires
 literals-fault-requires c κs = search needs
@@ -100,7 +105,7 @@ returns-4 c =
 sub-t11 : tie.Need-sub-t11
 sub-t11 c =
     let tested = c .before .before .before in
-    omega (arith, field (tested .before .before .before) .ordered)
+    field (tested .before .before .before) .ordered
 
 returns-5 : tie.Need-returns-5
 returns-5 c =

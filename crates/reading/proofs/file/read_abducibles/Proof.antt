@@ -2,7 +2,8 @@
 -- Assumes nothing.
 use mathlib.Core.Path.{_∙_}
 use mathlib.Core.Bool.{false}
-use native.Mathlib.Omega.{arith}
+use mathlib.Core.List.{List}
+use Prim.Native.Nat.{ℕ}
 use denote.Ref.{now}
 use Rattle.papers.specs.declared.Paper.the-variants.{File}
 use Rattle.papers.specs.Reading.{readAbducibles}
@@ -13,9 +14,17 @@ use borrow.Author.Needs.{needs}
 use Rattle.reading.proofs.file.read_abducibles.Statement.{statement}
 use Rattle.reading.proofs.file.read_abducibles.Tie as tie
 
--- The field is whole.
-field : (c : tie.After-known-told) → Got File 0x03 false 9 (now (c .before .before .before .before .before .args .file)) (c .before .got .given .0 .0) (c .before .got .given .0 .1 .0)
-field c = got-content File 0x03 false 9 (now (c .before .before .before .before .before .args .file)) (c .before .before .before .read-field .ensures) _ _ (c .before .got .given .1)
+abbrev file : tie.After-read-field → List ℕ
+file c = now (c .before .before .args .file)
+
+-- ---- once the field is whole
+
+module _ (c : tie.After-known-told) where
+  abbrev asked : tie.After-read-field
+  asked = c .before .before .before
+
+  field : Got File 0x03 false 9 (file asked) (c .before .got .given .0 .0) (c .before .got .given .0 .1 .0)
+  field = got-content _ _ _ _ _ (asked .read-field .ensures) _ _ (c .before .got .given .1)
 
 read-field-requires : tie.Need-read-field-requires
 read-field-requires c κs = search needs
@@ -37,30 +46,39 @@ returns c = search needs
 
 returns-2 : tie.Need-returns-2
 unfolding readAbducibles
-returns-2 c = rw (got-refused File 0x03 false 9 (now (c .before .before .before .before .before .before .before .before .args .file)) (c .before .before .before .before .before .before .read-field .ensures) (c .before .before .before .before .got2 .given .1 ∙ c .before .got3 .given .1))
+returns-2 c =
+    let other = c .before .before .before .before in
+    let asked = other .before .before in
+    rw (got-refused File 0x03 false 9 (file asked) (asked .read-field .ensures) (other .got2 .given .1 ∙ c .before .got3 .given .1))
 
 sub-abducibles-fault : tie.Need-sub-abducibles-fault
-sub-abducibles-fault c = omega (arith, field c .ordered)
+sub-abducibles-fault c = field c .ordered
 
 part-abducibles-fault-start : tie.Need-part-abducibles-fault-start
-part-abducibles-fault-start c = omega (arith, field c .ordered)
+part-abducibles-fault-start c = field c .ordered
 
 part-abducibles-fault-end : tie.Need-part-abducibles-fault-end
-part-abducibles-fault-end c = omega (arith, field c .within)
+part-abducibles-fault-end c = field c .within
 
 abducibles-fault-requires : tie.Need-abducibles-fault-requires
 abducibles-fault-requires c κs = search needs
 
 returns-3 : tie.Need-returns-3
 unfolding readAbducibles
-returns-3 c = rw (field (c .before .before .before) .read, ← c .before .abducibles-fault .ensures, passing-refuses _ File 9 _ (c .if1 .taken))
+returns-3 c =
+    let tested = c .before in
+    let whole = tested .before .before in
+    rw (field whole .read, ← tested .abducibles-fault .ensures, passing-refuses _ File 9 _ (c .if1 .taken))
 
 sub-t10 : tie.Need-sub-t10
-sub-t10 c = omega (arith, field (c .before .before .before) .ordered)
+sub-t10 c = field (c .before .before .before) .ordered
 
 returns-4 : tie.Need-returns-4
 unfolding readAbducibles
-returns-4 c = rw (field (c .before .before .before) .read, ← c .before .abducibles-fault .ensures, c .if1 .left, count-numbers, field (c .before .before .before) .sized)
+returns-4 c =
+    let tested = c .before in
+    let whole = tested .before .before in
+    rw (field whole .read, ← tested .abducibles-fault .ensures, c .if1 .left, count-numbers, field whole .sized)
 
 pub read-abducibles-spec : {M : Type 1} → statement M
 read-abducibles-spec =

@@ -2,6 +2,8 @@
 -- Assumes nothing.
 use mathlib.Core.Path.{_∙_}
 use mathlib.Core.Bool.{false}
+use mathlib.Core.List.{List}
+use Prim.Native.Nat.{ℕ}
 use native.Mathlib.Omega.{arith}
 use borrow.Author.Tests.{eq-eqb, ne-eqb}
 use denote.Ref.{now}
@@ -13,9 +15,17 @@ use borrow.Author.Needs.{needs}
 use Rattle.reading.proofs.file.read_edition.Statement.{statement}
 use Rattle.reading.proofs.file.read_edition.Tie as tie
 
--- The field is whole.
-field : (c : tie.After-known-told) → Got File 0x01 false 0 (now (c .before .before .before .before .before .args .file)) (c .before .got .given .0 .0) (c .before .got .given .0 .1 .0)
-field c = got-content File 0x01 false 0 (now (c .before .before .before .before .before .args .file)) (c .before .before .before .read-field .ensures) _ _ (c .before .got .given .1)
+abbrev file : tie.After-read-field → List ℕ
+file c = now (c .before .before .args .file)
+
+-- ---- once the field is whole
+
+module _ (c : tie.After-known-told) where
+  abbrev asked : tie.After-read-field
+  asked = c .before .before .before
+
+  field : Got File 0x01 false 0 (file asked) (c .before .got .given .0 .0) (c .before .got .given .0 .1 .0)
+  field = got-content _ _ _ _ _ (asked .read-field .ensures) _ _ (c .before .got .given .1)
 
 read-field-requires : tie.Need-read-field-requires
 read-field-requires c κs = search needs
@@ -37,16 +47,19 @@ returns c = search needs
 
 returns-2 : tie.Need-returns-2
 unfolding readEdition
-returns-2 c = rw (got-refused File 0x01 false 0 (now (c .before .before .before .before .before .before .before .before .args .file)) (c .before .before .before .before .before .before .read-field .ensures) (c .before .before .before .before .got2 .given .1 ∙ c .before .got3 .given .1))
+returns-2 c =
+    let other = c .before .before .before .before in
+    let asked = other .before .before in
+    rw (got-refused File 0x01 false 0 (file asked) (asked .read-field .ensures) (other .got2 .given .1 ∙ c .before .got3 .given .1))
 
 sub-content : tie.Need-sub-content
-sub-content c = omega (arith, field c .ordered)
+sub-content c = field c .ordered
 
 part-content-start : tie.Need-part-content-start
-part-content-start c = omega (arith, field c .ordered)
+part-content-start c = field c .ordered
 
 part-content-end : tie.Need-part-content-end
-part-content-end c = omega (arith, field c .within)
+part-content-end c = field c .within
 
 shared-slice-read-if1 : tie.Need-shared-slice-read-if1
 shared-slice-read-if1 c = let f = field (c .before .before) in omega (arith, f .sized, edition-length _ (f .allowed))

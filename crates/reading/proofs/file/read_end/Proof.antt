@@ -10,9 +10,18 @@ use borrow.Author.Needs.{needs}
 use Rattle.reading.proofs.file.read_end.Statement.{statement}
 use Rattle.reading.proofs.file.read_end.Tie as tie
 
--- The field is whole.
-field : (c : tie.After-known-told) → Got (c .before .before .before .before .before .args .paper) 0x7F false (c .before .before .before .before .before .args .place) (now (c .before .before .before .before .before .args .bytes)) (c .before .got .given .0 .0) (c .before .got .given .0 .1 .0)
-field c = let a = c .before .before .before .before .before .args in got-content (a .paper) 0x7F false (a .place) (now (a .bytes)) (c .before .before .before .read-field .ensures) _ _ (c .before .got .given .1)
+abbrev start : tie.After-read-field → tie.Start
+start c = c .before .before
+
+-- ---- once the field is whole
+
+module _ (c : tie.After-known-told) where
+  abbrev asked : tie.After-read-field
+  asked = c .before .before .before
+
+  field : Got (start asked .args .paper) 0x7F false (start asked .args .place) (now (start asked .args .bytes))
+      (c .before .got .given .0 .0) (c .before .got .given .0 .1 .0)
+  field = got-content _ _ _ _ _ (asked .read-field .ensures) _ _ (c .before .got .given .1)
 
 read-field-requires : tie.Need-read-field-requires
 read-field-requires c κs = search needs
@@ -34,7 +43,11 @@ returns c = search needs
 
 returns-2 : tie.Need-returns-2
 unfolding readEnd
-returns-2 c = let a = c .before .before .before .before .before .before .before .before .args in rw (got-refused (a .paper) 0x7F false (a .place) (now (a .bytes)) (c .before .before .before .before .before .before .read-field .ensures) (c .before .before .before .before .got2 .given .1 ∙ c .before .got3 .given .1))
+returns-2 c =
+    let other = c .before .before .before .before in
+    let asked = other .before .before in
+    let a = start asked .args in
+    rw (got-refused (a .paper) 0x7F false (a .place) (now (a .bytes)) (asked .read-field .ensures) (other .got2 .given .1 ∙ c .before .got3 .given .1))
 
 returns-3 : tie.Need-returns-3
 unfolding readEnd
