@@ -74,10 +74,11 @@ returns c = search needs
 
 returns-2 : tie.Need-returns-2
 returns-2 c =
-    let asked = c .before .before .before .before .before .before in
+    let other = c .before .before .before .before in
+    let asked = other .before .before in
     file-tells _
     (file-edition (now (asked .before .before .args .file))
-    (number-refused _ (asked .read-edition .ensures) (c .before .before .before .before .edition .given .1 ∙ c .before .edition2 .given .1)))
+    (number-refused _ (asked .read-edition .ensures) (other .edition .given .1 ∙ c .before .edition2 .given .1)))
 
 read-atoms-requires : tie.Need-read-atoms-requires
 read-atoms-requires c κs = edition-within (file c) (edition-read c)
@@ -102,11 +103,12 @@ returns-3 c = search needs
 
 returns-4 : tie.Need-returns-4
 returns-4 c =
-    let asked = c .before .before .before .before .before .before in
+    let other = c .before .before .before .before in
+    let asked = other .before .before in
     let edition = asked .before in
     file-tells _
     (file-atoms (file edition) (edition-read edition)
-    (number-refused _ (asked .read-atoms .ensures) (c .before .before .before .before .counted2 .given .1 ∙ c .before .counted3 .given .1)))
+    (number-refused _ (asked .read-atoms .ensures) (other .counted2 .given .1 ∙ c .before .counted3 .given .1)))
 
 cast-read-abducibles : tie.Need-cast-read-abducibles
 cast-read-abducibles c = omega (arith, within c .1)
@@ -134,12 +136,13 @@ returns-5 c = search needs
 
 returns-6 : tie.Need-returns-6
 returns-6 c =
-    let asked = c .before .before .before .before .before .before in
+    let other = c .before .before .before .before in
+    let asked = other .before .before in
     let known = asked .before in
     let edition = opened known in
     file-tells _
     (file-abducibles (file edition) (edition-read edition) (atoms-read known)
-    (count-refused _ (asked .read-abducibles .ensures) (c .before .before .before .before .listed2 .given .1 ∙ c .before .listed3 .given .1)))
+    (count-refused _ (asked .read-abducibles .ensures) (other .listed2 .given .1 ∙ c .before .listed3 .given .1)))
 
 cast-read-rules : tie.Need-cast-read-rules
 cast-read-rules c = omega (arith, within (counted c) .1)

@@ -50,11 +50,12 @@ returns c = search needs
 
 returns-2 : tie.Need-returns-2
 returns-2 c =
-    let asked = c .before .before .before .before .before .before in
+    let other = c .before .before .before .before in
+    let asked = other .before .before in
     let a = asked .before .before .before .args in
     papers-tells _
     (papers-file (now (a .file)) (now (a .sheet))
-    (file-refused _ (file-told _ (asked .read-file .ensures)) (c .before .before .before .before .program2 .given .1 ∙ c .before .program3 .given .1)))
+    (file-refused _ (file-told _ (asked .read-file .ensures)) (other .program2 .given .1 ∙ c .before .program3 .given .1)))
 
 read-sheet-requires : tie.Need-read-sheet-requires
 read-sheet-requires c κs = search needs
@@ -76,11 +77,12 @@ returns-3 c = search needs
 
 returns-4 : tie.Need-returns-4
 returns-4 c =
-    let asked = c .before .before .before .before .before .before in
+    let other = c .before .before .before .before in
+    let asked = other .before .before in
     let f = asked .before in
     papers-tells _
     (papers-sheet (file f) (sheet f) (filed f)
-    (count-refused _ (asked .read-sheet .ensures) (c .before .before .before .before .query2 .given .1 ∙ c .before .query3 .given .1)))
+    (count-refused _ (asked .read-sheet .ensures) (other .query2 .given .1 ∙ c .before .query3 .given .1)))
 
 returns-5 : tie.Need-returns-5
 returns-5 c =

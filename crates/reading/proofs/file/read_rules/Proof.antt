@@ -48,7 +48,11 @@ module _ (c : tie.After-known-told) where
   abbrev first : tie.After-read-run
   first = c .before .before .before
 
-  rules-ran : Ran (run first 0x04 1024 (12 + 2 * start first .args .abducibles)) (c .before .rules .given .0 .0) (c .before .rules .given .0 .1 .0)
+  -- The place after them.
+  abbrev next : ℕ
+  next = c .before .rules .given .0 .1 .0
+
+  rules-ran : Ran (run first 0x04 1024 (12 + 2 * start first .args .abducibles)) (c .before .rules .given .0 .0) next
   rules-ran = run-accepted _ (rules-told first) (c .before .rules .given .1)
 
 -- ---- once the integrity rules are asked for
@@ -57,7 +61,7 @@ module _ (c : tie.After-read-run2) where
   abbrev ruled : tie.After-known-told
   ruled = c .before
 
-  integrity-told : c .read-run2 .result ≡ runAnswer 0 (run (first ruled) 0x05 256 (ruled .before .rules .given .0 .1 .0))
+  integrity-told : c .read-run2 .result ≡ runAnswer 0 (run (first ruled) 0x05 256 (next ruled))
   integrity-told = let s = first ruled in run-listed 0x05 (start s .args .atoms) (start s .args .abducibles) 256 _ (file s) (c .read-run2 .ensures)
 
 -- ---- once they are read
@@ -66,7 +70,7 @@ module _ (c : tie.After-known-told4) where
   abbrev second : tie.After-read-run2
   second = c .before .before .before
 
-  integrity-ran : Ran (run (first (ruled second)) 0x05 256 (ruled second .before .rules .given .0 .1 .0)) (c .before .denials .given .0 .0) (c .before .denials .given .0 .1 .0)
+  integrity-ran : Ran (run (first (ruled second)) 0x05 256 (next (ruled second))) (c .before .denials .given .0 .0) (c .before .denials .given .0 .1 .0)
   integrity-ran = run-accepted _ (integrity-told second) (c .before .denials .given .1)
 
 mul-first : tie.Need-mul-first
@@ -107,10 +111,11 @@ returns c = search needs
 
 returns-2 : tie.Need-returns-2
 returns-2 c =
-    let asked = c .before .before .before .before .before .before in
+    let other = c .before .before .before .before in
+    let asked = other .before .before in
     let a = start asked .args in
     rules-refused (a .atoms) (a .abducibles) (file asked) (start asked .pre)
-    (run-not _ (rules-told asked) (c .before .before .before .before .rules2 .given .1 ∙ c .before .rules3 .given .1))
+    (run-not _ (rules-told asked) (other .rules2 .given .1 ∙ c .before .rules3 .given .1))
 
 read-run-requires-2 : tie.Need-read-run-requires-2
 read-run-requires-2 c κs =
@@ -137,11 +142,12 @@ returns-3 c = search needs
 
 returns-4 : tie.Need-returns-4
 returns-4 c =
-    let asked = c .before .before .before .before .before .before in
+    let other = c .before .before .before .before in
+    let asked = other .before .before in
     let rules = ruled asked in
     let s = start (first rules) in
     integrity-refused (s .args .atoms) (s .args .abducibles) (now (s .args .file)) (s .pre) (rules-ran rules)
-    (run-not _ (integrity-told asked) (c .before .before .before .before .denials2 .given .1 ∙ c .before .denials3 .given .1))
+    (run-not _ (integrity-told asked) (other .denials2 .given .1 ∙ c .before .denials3 .given .1))
 
 read-end-requires : tie.Need-read-end-requires
 read-end-requires c κs =
@@ -169,12 +175,13 @@ returns-5 c = search needs
 
 returns-6 : tie.Need-returns-6
 returns-6 c =
-    let ended = c .before .before .before .before .before .before in
+    let other = c .before .before .before .before in
+    let ended = other .before .before in
     let integrity = ended .before in
     let rules = ruled (second integrity) in
     let s = start (first rules) in
     end-refused (s .args .atoms) (s .args .abducibles) (now (s .args .file)) (s .pre) (rules-ran rules) (integrity-ran integrity)
-    (number-refused _ (ended .read-end .ensures) (c .before .before .before .before .end .given .1 ∙ c .before .end2 .given .1))
+    (number-refused _ (ended .read-end .ensures) (other .end .given .1 ∙ c .before .end2 .given .1))
 
 fields-at-requires : tie.Need-fields-at-requires
 fields-at-requires c κs = search needs
