@@ -11,12 +11,8 @@ use Rattle.steps.specs.declared.Record.{Record}
 use Rattle.steps.specs.Continuing.{Work, steps, begun, reportOf, continue}
 use Rattle.steps.specs.Spoilt.{spoiltBy}
 use Rattle.stepping.specs.Stepping.{workOf, Kept}
-use Rattle.trying.specs.Trying.{toldReport, reportBy}
+use Rattle.trying.specs.Trying.{toldReport, reportBy, untried}
 use Rattle.steps.proofs.Sound.{unspoilt-bounded}
-
--- Nothing tried yet.
-abbrev pub untried : Record → Progress
-untried from = record { position = from .position; found = from .found; tried = 0; rounds = 0 }
 
 module _ (P : Problem) {total : ℕ} (all : total ≡ scenarios P) (from : Record) (list : List ℕ) where
   pub unspoilt-kept : spoiltBy total from list ≡ false → Kept total (untried from) list

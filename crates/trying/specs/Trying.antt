@@ -8,7 +8,8 @@ use Rattle.papers.specs.declared.Contents.{Contents}
 use Rattle.papers.specs.Program.{Query}
 use Rattle.papers.specs.Reading.{programIn, Papers}
 use Rattle.model.specs.Model.{rounds, explains}
-use Rattle.verdicts.specs.VerdictLanes.{PapersStand, Prepared}
+use Rattle.preparing.specs.Preparing.{PapersStand}
+use Rattle.verdicts.specs.VerdictLanes.{Prepared}
 use Rattle.trying.specs.declared.Report.{Report as CallReport}
 use Rattle.stepping.specs.declared.Progress.{Progress}
 use Rattle.steps.specs.Explanations.{Problem}
@@ -35,6 +36,10 @@ toldReport x = record { new = x .new; tried = x .tried; rounds = x .rounds; stat
 -- The problem of an accepted file and a query.
 abbrev pub problemIn : List ℕ → Query → Problem
 problemIn file query = problemOf (record { program = programIn file; query = query })
+
+-- A call that has tried nothing yet.
+abbrev pub untried : Record → Progress
+untried from = record { position = from .position; found = from .found; tried = 0; rounds = 0 }
 
 -- What is told of a call that has come so far.
 abbrev pub reportBy : ℕ → ℕ → Progress → CallReport

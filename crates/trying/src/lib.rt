@@ -4,8 +4,7 @@ ghost use Prim.Native.Nat.{_≤_};
 ghost use Rattle.papers.specs.Field.{numbers};
 ghost use Rattle.steps.specs.Continuing.{stateBy};
 ghost use Rattle.stepping.specs.Stepping.{Batch, Tried};
-ghost use Rattle.trying.specs.Trying.{problemIn, reportBy, Ready, Passed, Continues};
-use copying::copy_numbers;
+ghost use Rattle.trying.specs.Trying.{problemIn, reportBy, untried, Ready, Passed, Continues};
 use papers::Contents;
 use preparing::prepare;
 use stepping::Progress;
@@ -154,6 +153,18 @@ fn report_of(total: u32, allowance: u32, reached: Progress) -> Report
     }
 }
 
+// A call that has tried nothing yet.
+fn untried(from: Record) -> Progress
+    ensures { λ r. ⌜ r ≡ untried from ⌝ }
+{
+    Progress {
+        position: from.position,
+        found: from.found,
+        tried: 0,
+        rounds: 0,
+    }
+}
+
 // A call on a record and a list that pass test 14: the papers are decoded, and their scenarios tried.
 fn search_decoded(
     file: &[u8],
@@ -175,28 +186,22 @@ fn search_decoded(
     let mut entries = [0u16; 28000];
     let mut entry_visits = [0u16; 513];
     let mut asked = [0u16; 16];
-    prepare(
+    let counts = prepare(
         file,
         contents,
         places,
         dual,
+        query,
         &mut rules,
         &mut rule_visits,
         &mut entries,
         &mut entry_visits,
+        &mut asked,
     );
-    copy_numbers(query, &mut asked, 0);
-    let listed = contents.rules;
-    let integrity = contents.integrity;
-    let folds = listed.count + integrity.count;
-    let judged = literals::judged(contents.atoms);
-    let size = query.len() / 2;
-    let before = Progress {
-        position: from.position,
-        found: from.found,
-        tried: 0,
-        rounds: 0,
-    };
+    let folds = counts.folds;
+    let judged = counts.judged;
+    let size = counts.asked;
+    let before = untried(from);
     let reached = try_all(
         file,
         contents,
@@ -230,13 +235,7 @@ pub fn search_accepted(
         r (now (list .exit)) ⌝ }
 {
     if allowance == 0 {
-        let before = Progress {
-            position: from.position,
-            found: from.found,
-            tried: 0,
-            rounds: 0,
-        };
-        return report_of(total, allowance, before);
+        return report_of(total, allowance, untried(from));
     }
     search_decoded(
         file,

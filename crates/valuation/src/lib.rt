@@ -9,8 +9,8 @@ ghost use Rattle.papers.specs.Field.{numbers};
 ghost use Rattle.papers.specs.Reading.{programIn};
 ghost use Rattle.dual.specs.Bytes.{filled};
 ghost use Rattle.model.specs.Model.{rounds, modelBytes, explains};
-ghost use Rattle.verdicts.specs.VerdictLanes.{PapersStand, Prepared};
-use copying::copy_numbers;
+ghost use Rattle.preparing.specs.Preparing.{PapersStand};
+ghost use Rattle.verdicts.specs.VerdictLanes.{Prepared};
 use papers::Contents;
 use preparing::prepare;
 use settling::settle;
@@ -83,22 +83,21 @@ pub fn judge_accepted(
     let mut entries = [0u16; 28000];
     let mut entry_visits = [0u16; 513];
     let mut asked = [0u16; 16];
-    prepare(
+    let counts = prepare(
         file,
         contents,
         places,
         dual,
+        query,
         &mut rules,
         &mut rule_visits,
         &mut entries,
         &mut entry_visits,
+        &mut asked,
     );
-    copy_numbers(query, &mut asked, 0);
-    let listed = contents.rules;
-    let integrity = contents.integrity;
-    let folds = listed.count + integrity.count;
-    let judged = literals::judged(contents.atoms);
-    let size = query.len() / 2;
+    let folds = counts.folds;
+    let judged = counts.judged;
+    let size = counts.asked;
     judge_decoded(
         file,
         contents,

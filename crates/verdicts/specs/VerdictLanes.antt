@@ -11,9 +11,6 @@ use Rattle.papers.specs.Valid.{ValidBody}
 use Rattle.papers.specs.declared.FileRead.the-variants.{Accepted}
 use Rattle.papers.specs.Reading.{readFile, programIn}
 use Rattle.papers.specs.Answers.{fileAnswer}
-use Rattle.papers.specs.Field.{numbers}
-use Rattle.papers.specs.Places.{Walked}
-use Rattle.rows.specs.DualBytes.{DualStarts}
 use Rattle.papers.specs.Tests.{_and_}
 use Rattle.model.specs.Sets.{has}
 use Rattle.model.specs.LeastSet.{bodyHolds}
@@ -21,13 +18,7 @@ use Rattle.model.specs.Model.{rounds, explains}
 use Rattle.lanes.specs.Lanes.{inLane, lane}
 use Rattle.settling.specs.RoundLanes.{Decoded}
 
--- Accepted papers with the places of their folds, the dual in its buffer, and the query as a part of the sheet.
-pub record PapersStand (file : List ℕ) (contents : Contents) (places dual query : List ℕ) : Type 0 where
-  pub walked : Walked file contents places
-  pub starts : DualStarts (programIn file) dual
-  pub asked : ValidBody ((programIn file) .atoms) (numbers query)
-
--- The same decoded: the rules and the dual of the file and the query of the sheet as numbers.
+-- Accepted papers decoded: the rules and the dual of the file and the query of the sheet as numbers.
 pub record Prepared (file : List ℕ) (contents : Contents) (rules rule-visits entries entry-visits query : List ℕ) : Type 0 where
   pub answer : fileAnswer (readFile file) ≡ Accepted contents
   pub decoded : Decoded (programIn file) rules rule-visits entries entry-visits

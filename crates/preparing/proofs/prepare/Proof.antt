@@ -9,10 +9,13 @@ use lib.ListN.{length}
 use denote.Ref.{now}
 use Rattle.literals.specs.Numbering.{judged}
 use Rattle.papers.specs.Program.{Program}
+use Rattle.papers.specs.Field.{numbers}
 use Rattle.papers.specs.Reading.{programIn}
 use Rattle.parts.specs.Parts.{Unmarked}
+use Rattle.papers.proofs.NumbersWalked.{count-numbers}
 use Rattle.papers.proofs.FileFacts.{atoms-are}
 use Rattle.papers.proofs.FoldsWalked.{rules-counted, few-folds}
+use Rattle.copying.proofs.LaidLaws.{laid-first}
 use Rattle.rows.specs.Rows.{ruleRows, entryRows, joined}
 use Rattle.rows.proofs.RowLaws.{rule-rows-count, rule-rows-bound, entry-rows-count, entry-rows-bound}
 use Rattle.preparing.proofs.RowsPrepared.{visits-unmarked, rows-prepared}
@@ -29,28 +32,28 @@ module _ (c : tie.Start) where
   count = c .args .contents .rules .count + c .args .contents .integrity .count
 
   few : count ≤ 1280
-  few = few-folds (now (c .args .file)) (c .args .contents) (c .pre .0 .answer)
+  few = few-folds (now (c .args .file)) (c .args .contents) (c .pre .0 .walked .answer)
 
   rules-listed : count ≡ length (ruleRows program)
-  rules-listed = rules-counted (now (c .args .file)) (c .args .contents) (c .pre .0 .answer) ∙ sym (rule-rows-count program)
+  rules-listed = rules-counted (now (c .args .file)) (c .args .contents) (c .pre .0 .walked .answer) ∙ sym (rule-rows-count program)
 
   rules-room : length (joined (ruleRows program)) ≤ length (now (c .args .rules))
-  rules-room = omega (arith, rule-rows-bound program (c .pre .1 .0 .valid), c .pre .1 .1 .0)
+  rules-room = omega (arith, rule-rows-bound program (c .pre .0 .starts .valid), c .pre .1 .rules-fit)
 
   entries-room : length (joined (entryRows program)) ≤ length (now (c .args .entries))
-  entries-room = omega (arith, entry-rows-bound program (c .pre .1 .0 .valid), c .pre .1 .1 .1 .1 .0)
+  entries-room = omega (arith, entry-rows-bound program (c .pre .0 .starts .valid), c .pre .1 .entries-fit)
 
 -- ---- where the judged literals are counted
 
 module _ (c : tie.After-judged) where
   abbrev start : tie.Start
-  start = c .before .before .before .before .before .before .before
+  start = c .before .before .before .before .before .before .before .before .before
 
   counted : c .judged .result ≡ judged (program start .atoms)
-  counted = c .judged .ensures ∙ ap judged (sym (atoms-are (now (start .args .file)) (start .args .contents) (start .pre .0 .answer)))
+  counted = c .judged .ensures ∙ ap judged (sym (atoms-are (now (start .args .file)) (start .args .contents) (start .pre .0 .walked .answer)))
 
   judged-few : c .judged .result ≤ 513
-  judged-few = omega (arith, counted, start .pre .1 .0 .valid .fewAtoms)
+  judged-few = omega (arith, counted, start .pre .0 .starts .valid .fewAtoms)
 
   entries-listed : c .judged .result ≡ length (entryRows (program start))
   entries-listed = counted ∙ sym (entry-rows-count (program start))
@@ -85,7 +88,7 @@ decode-dual-requires : tie.Need-decode-dual-requires
 decode-dual-requires c κs =
     let j = judged-at (rules-at c) in
     let s = start j in
-    (s .pre .1 .0, (counted j, (s .pre .1 .1 .1 .1 .0, omega arith)))
+    (s .pre .0 .starts, (counted j, (s .pre .1 .entries-fit, omega arith)))
 
 slice-aggregate-order-rows : tie.Need-slice-aggregate-order-rows
 slice-aggregate-order-rows c = search needs
@@ -107,8 +110,8 @@ order-rows-requires c κs =
         (
           omega (arith, d .decode-dual .kept .1 .1 .1 .1 .0),
           (
-            omega (arith, s .pre .1 .1 .1 .1 .1),
-            (omega (arith, r .decode-rules .kept .1 .1 .1 .1 .0), omega (arith, s .pre .1 .1 .1 .0)),
+            omega (arith, s .pre .1 .entry-visits-fit),
+            (omega (arith, r .decode-rules .kept .1 .1 .1 .1 .0), omega (arith, s .pre .1 .rule-visits-fit)),
           ),
         ),
       ),
@@ -139,34 +142,43 @@ module _ (o : tie.After-order-rows) where
   rules-unmarked =
       let p = program begun in
       visits-unmarked (ruleRows p) _ (rules-done .decode-rules .last .1 .1 .1 .1 .0) rules-ordered (count begun) (rules-listed begun)
-      (omega (arith, rule-rows-bound p (begun .pre .1 .0 .valid))) (rules-done .decode-rules .ensures .1) (o .order-rows .ensures .1 .0)
+      (omega (arith, rule-rows-bound p (begun .pre .0 .starts .valid))) (rules-done .decode-rules .ensures .1) (o .order-rows .ensures .1 .0)
 
   entries-unmarked : Unmarked (counts .judged .result) entries-ordered
   entries-unmarked =
       let p = program begun in
       visits-unmarked (entryRows p) _ (dual-done .decode-dual .last .1 .1 .1 .1 .0) entries-ordered (counts .judged .result) (entries-listed counts)
-      (omega (arith, entry-rows-bound p (begun .pre .1 .0 .valid))) (dual-done .decode-dual .ensures .1) (o .order-rows .ensures .0 .0)
+      (omega (arith, entry-rows-bound p (begun .pre .0 .starts .valid))) (dual-done .decode-dual .ensures .1) (o .order-rows .ensures .0 .0)
 
 -- ---- where they are marked
+
+abbrev ordered : tie.After-mark-parts → tie.After-order-rows
+ordered c = c .before .before .before .before .before .before .before
+
+abbrev rules-marked : tie.After-mark-parts2 → tie.After-mark-parts
+rules-marked c = c .before .before .before .before .before
 
 mark-parts-requires : tie.Need-mark-parts-requires
 mark-parts-requires c κs =
     let o = c .before .before .before .before .before .before in
     let few-rules = few (begun o) in
     let long = o .order-rows .ensures .1 .1 .sized in
-    (omega arith, (few-rules, (omega (arith, begun o .pre .1 .1 .1 .0), rules-unmarked o)))
+    (omega arith, (few-rules, (omega (arith, begun o .pre .1 .rule-visits-fit), rules-unmarked o)))
 
 mark-parts-requires-2 : tie.Need-mark-parts-requires-2
 mark-parts-requires-2 c κs =
-    let o = c .before .before .before .before .before .before .before .before .before .before .before in
+    let o = ordered (c .before .before .before .before) in
     let few-entries = judged-few (counts o) in
     let long = o .order-rows .ensures .0 .1 .sized in
-    (omega arith, (omega arith, (omega (arith, begun o .pre .1 .1 .1 .1 .1), entries-unmarked o)))
+    (omega arith, (omega arith, (omega (arith, begun o .pre .1 .entry-visits-fit), entries-unmarked o)))
+
+copy-numbers-requires : tie.Need-copy-numbers-requires
+copy-numbers-requires c κs =
+    let s = begun (ordered (rules-marked (c .before .before .before))) in
+    omega (arith, s .pre .0 .asked .few, s .pre .1 .asked-fit)
 
 same-length : tie.Need-same-length
-same-length c =
-    let m = c .before .before .before .before .before .before .before in
-    rules-done (m .before .before .before .before .before .before .before) .decode-rules .kept .1 .1 .1 .0
+same-length c = rules-done (ordered (rules-marked (c .before .before .before .before .before .before))) .decode-rules .kept .1 .1 .1 .0
 
 same-length-2 : tie.Need-same-length-2
 same-length-2 c = search needs
@@ -177,25 +189,36 @@ same-length-3 c = search needs
 same-length-4 : tie.Need-same-length-4
 same-length-4 c = search needs
 
+same-length-5 : tie.Need-same-length-5
+same-length-5 c = search needs
+
 returns : tie.Need-returns
 returns c =
-    let e = c .before .before in
-    let m = e .before .before .before .before .before in
-    let o = m .before .before .before .before .before .before .before in
+    let copied = c .before .before .copy-numbers in
+    let e = c .before .before .before .before .before .before in
+    let m = rules-marked e in
+    let o = ordered m in
     let d = dual-done o in
     let r = rules-done o in
     let j = counts o in
-    let s = begun o in (
-      rows-prepared 0 (ruleRows (program s)) (now (s .args .rules)) (r .decode-rules .last .1 .1 .1 .0) (now (s .args .rule-visits))
-          (rules-ordered o) (m .mark-parts .last .1 .1 .0) (rules-room s) (omega (arith, few s, rules-listed s, s .pre .1 .1 .1 .0)) _
+    let s = begun o in
+    let folds = rules-counted (now (s .args .file)) (s .args .contents) (s .pre .0 .walked .answer) in
+    let asked = sym (count-numbers (now (s .args .query))) in
+    record {
+      rules-in =
+          rows-prepared 0 (ruleRows (program s)) (now (s .args .rules)) (r .decode-rules .last .1 .1 .1 .0) (now (s .args .rule-visits))
+          (rules-ordered o) (m .mark-parts .last .1 .1 .0) (rules-room s) (omega (arith, few s, rules-listed s, s .pre .1 .rule-visits-fit)) _
           (r .decode-rules .last .1 .1 .1 .1 .0) (r .decode-rules .ensures .0) (r .decode-rules .ensures .1) (count s) (rules-listed s)
-          (o .order-rows .ensures .1 .0) (o .order-rows .ensures .1 .1) (m .mark-parts .ensures .0) (m .mark-parts .ensures .1),
-      rows-prepared 1 (entryRows (program s)) (now (s .args .entries)) (d .decode-dual .last .1 .1 .1 .0) (now (s .args .entry-visits))
+          (o .order-rows .ensures .1 .0) (o .order-rows .ensures .1 .1) (m .mark-parts .ensures .0) (m .mark-parts .ensures .1);
+      entries-in =
+          rows-prepared 1 (entryRows (program s)) (now (s .args .entries)) (d .decode-dual .last .1 .1 .1 .0) (now (s .args .entry-visits))
           (entries-ordered o) (e .mark-parts2 .last .1 .1 .0) (entries-room s)
-          (omega (arith, judged-few j, entries-listed j, s .pre .1 .1 .1 .1 .1)) _
+          (omega (arith, judged-few j, entries-listed j, s .pre .1 .entry-visits-fit)) _
           (d .decode-dual .last .1 .1 .1 .1 .0) (d .decode-dual .ensures .0) (d .decode-dual .ensures .1) (j .judged .result) (entries-listed j)
-          (o .order-rows .ensures .0 .0) (o .order-rows .ensures .0 .1) (e .mark-parts2 .ensures .0) (e .mark-parts2 .ensures .1),
-    )
+          (o .order-rows .ensures .0 .0) (o .order-rows .ensures .0 .1) (e .mark-parts2 .ensures .0) (e .mark-parts2 .ensures .1);
+      query-in = copied .ensures ∙ laid-first (numbers (now (s .args .query))) (now (s .args .asked));
+      counted = λ i. record { folds = folds i; judged = counted j i; asked = asked i };
+    }
 
 pub prepare-spec : {M : Type 1} → statement M
 prepare-spec =
@@ -212,8 +235,10 @@ prepare-spec =
     order-rows-requires
     mark-parts-requires
     mark-parts-requires-2
+    copy-numbers-requires
     same-length
     same-length-2
     same-length-3
     same-length-4
+    same-length-5
     returns)

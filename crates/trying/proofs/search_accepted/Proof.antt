@@ -7,22 +7,28 @@ use denote.Ref.{now}
 use Rattle.papers.specs.Field.{numbers}
 use Rattle.steps.specs.Continuing.{steps, begun}
 use Rattle.steps.proofs.Runs.{steps-zero}
-use Rattle.trying.specs.Trying.{problemIn}
+use Rattle.trying.specs.Trying.{problemIn, reportBy}
 use Rattle.trying.proofs.CallReports.{call-told, call-list}
 use Rattle.trying.proofs.search_accepted.Statement.{statement}
 use Rattle.trying.proofs.search_accepted.Tie as tie
+
+untried-requires : tie.Need-untried-requires
+untried-requires c κs = search needs
 
 report-of-requires : tie.Need-report-of-requires
 report-of-requires c κs = search needs
 
 returns : tie.Need-returns
 returns c =
-    let s = c .before .before .before .before .before .before in
+    let none = c .before in
+    let s = none .before .before .before .before .before .before in
     let a = s .args in
     let P = problemIn (now (a .file)) (numbers (now (a .query))) in
     let work = begun (a .from) (now (a .list)) in
-    let ran = ap (λ (n : ℕ). steps P n work) (c .before .if1 .taken) ∙ steps-zero P work in (
-      c .report-of .ensures ∙ call-told P (s .pre .scenarios) (a .from) (now (a .list)) (a .allowance) ran,
+    let ran = ap (λ (n : ℕ). steps P n work) (none .before .if1 .taken) ∙ steps-zero P work in (
+      c .report-of .ensures
+          ∙ ap (reportBy (a .total) (a .allowance)) (none .untried .ensures)
+          ∙ call-told P (s .pre .scenarios) (a .from) (now (a .list)) (a .allowance) ran,
       call-list P (s .pre .scenarios) (a .from) (now (a .list)) (a .allowance) ran,
     )
 
@@ -36,4 +42,4 @@ returns-2 : tie.Need-returns-2
 returns-2 c = search needs
 
 pub search-accepted-spec : {M : Type 1} → statement M
-search-accepted-spec = tie.close (tie.spec report-of-requires returns search-decoded-requires same-length returns-2)
+search-accepted-spec = tie.close (tie.spec untried-requires report-of-requires returns search-decoded-requires same-length returns-2)

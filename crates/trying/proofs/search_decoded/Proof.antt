@@ -1,19 +1,16 @@
--- `trying::search_decoded` meets its contract: the papers are decoded, and searched.
+-- `trying::search_decoded` meets its contract: the papers are prepared, and searched.
 -- Assumes nothing.
-use mathlib.Core.Path.{_≡_, refl, _∙_}
-use mathlib.Core.List.{List}
-use Prim.Native.Nat.{ℕ, _+_, _-_, _/_, _≤_, _<_}
+use mathlib.Core.Path.{sym, ap, _∙_}
+use Prim.Native.Nat.{_<_}
 use native.Mathlib.Omega.{arith}
 use borrow.Author.Needs.{needs}
 use denote.Ref.{now}
-use lib.ListN.{length, take, drop, replicate}
-use Rattle.literals.specs.Numbering.{judged}
-use Rattle.papers.specs.Reading.{programIn}
 use Rattle.papers.specs.Field.{numbers}
-use Rattle.papers.proofs.FileFacts.{atoms-are, few-atoms}
-use Rattle.papers.proofs.FoldsWalked.{rules-counted, few-folds}
-use Rattle.verdicts.specs.VerdictLanes.{Prepared}
-use Rattle.verdicts.proofs.PapersDecoded.{numbers-counted, query-part, papers-decoded}
+use Rattle.preparing.proofs.CountsWithin.{folds-within, judged-within, asked-within}
+use Rattle.steps.specs.Continuing.{steps}
+use Rattle.stepping.specs.declared.Progress.{Progress}
+use Rattle.stepping.specs.Stepping.{workOf}
+use Rattle.verdicts.proofs.PapersDecoded.{query-part, papers-decoded}
 use Rattle.trying.specs.Trying.{problemIn}
 use Rattle.trying.proofs.CallReports.{unspoilt-kept, call-told, call-list}
 use Rattle.trying.proofs.search_decoded.Statement.{statement}
@@ -26,63 +23,22 @@ allowed s = omega arith
 -- ---- the places
 
 abbrev start : tie.After-prepare → tie.Start
-start c = c .before .before .before .before .before .before .before .before .before
+start c = c .before .before .before .before .before .before .before .before .before .before
 
-abbrev prepared : tie.After-copy-numbers → tie.After-prepare
+abbrev begun : tie.After-rule-visits3 → tie.After-untried
+begun c = c .before .before
+
+abbrev prepared : tie.After-untried → tie.After-prepare
 prepared c = c .before .before .before .before .before .before
 
--- ---- once all is decoded
+abbrev rules-part : tie.After-entry-visits3 → tie.After-rule-visits3
+rules-part c = c .before .before .before
 
-module _ (c : tie.After-judged) where
-  abbrev copied : tie.After-copy-numbers
-  copied = c .before .before .before .before .before .before
+abbrev entries-part : tie.After-asked3 → tie.After-entry-visits3
+entries-part c = c .before .before
 
-  abbrev made : tie.After-prepare
-  made = prepared copied
-
-  abbrev begun : tie.Start
-  begun = start made
-
-  abbrev file : List ℕ
-  file = now (begun .args .file)
-
-  abbrev query : List ℕ
-  query = now (begun .args .query)
-
-  abbrev folds : ℕ
-  folds = begun .args .contents .rules .count + begun .args .contents .integrity .count
-
-  folds-few : folds ≤ 1280
-  folds-few = few-folds file (begun .args .contents) (begun .pre .prepared .walked .answer)
-
-  judged-is : c .judged .result ≡ judged ((programIn file) .atoms)
-  judged-is = rw (atoms-are file (begun .args .contents) (begun .pre .prepared .walked .answer)) (c .judged .ensures)
-
-  judged-few : c .judged .result ≤ 513
-  judged-few = omega (arith, c .judged .ensures, few-atoms file (begun .args .contents) (begun .pre .prepared .walked .answer))
-
-  query-few : length query / 2 ≤ 16
-  query-few = omega (arith, numbers-counted query, begun .pre .prepared .asked .few)
-
-  abbrev asked : List ℕ
-  asked = copied .copy-numbers .last .1 .0
-
-  query-is : take (length query / 2 - 0) (drop 0 asked) ≡ numbers query
-  query-is = query-part query (replicate 16 0) asked (length query / 2) refl (copied .copy-numbers .ensures)
-
-  abbrev visits : List ℕ
-  visits = made .prepare .last .1 .1 .1 .1 .1 .0
-
-  abbrev turns : List ℕ
-  turns = made .prepare .last .1 .1 .1 .1 .1 .1 .1 .0
-
-  decoded : Prepared file (begun .args .contents) (made .prepare .last .1 .1 .1 .1 .0) (take (folds - 0) (drop 0 visits))
-      (made .prepare .last .1 .1 .1 .1 .1 .1 .0) (take (c .judged .result - 0) (drop 0 turns)) (take (length query / 2 - 0) (drop 0 asked))
-  decoded =
-      let rows = made .prepare .ensures in
-      papers-decoded file (begun .args .contents) (now (begun .args .places)) (now (begun .args .dual)) query (begun .pre .prepared) folds (c .judged .result)
-      (length query / 2) (replicate 16 0) (rows .0) (rows .1) (rules-counted file (begun .args .contents) (begun .pre .prepared .walked .answer)) judged-is
-      refl (copied .copy-numbers .ensures)
+abbrev all-parts : tie.After-try-all-arg4 → tie.After-untried
+all-parts c = begun (rules-part (entries-part (c .before .before)))
 
 slice-aggregate-prepare : tie.Need-slice-aggregate-prepare
 slice-aggregate-prepare c = search needs
@@ -96,24 +52,14 @@ slice-aggregate-prepare-3 c = search needs
 slice-aggregate-prepare-4 : tie.Need-slice-aggregate-prepare-4
 slice-aggregate-prepare-4 c = search needs
 
+slice-aggregate-prepare-5 : tie.Need-slice-aggregate-prepare-5
+slice-aggregate-prepare-5 c = search needs
+
 prepare-requires : tie.Need-prepare-requires
-prepare-requires c κs =
-    let sound = c .before .before .before .before .before .before .before .before .pre .prepared in
-    (sound .walked, (sound .starts, (search needs, (search needs, (search needs, search needs)))))
+prepare-requires c κs = (c .before .before .before .before .before .before .before .before .before .pre .prepared, search needs)
 
-slice-aggregate-copy-numbers : tie.Need-slice-aggregate-copy-numbers
-slice-aggregate-copy-numbers c = search needs
-
-copy-numbers-requires : tie.Need-copy-numbers-requires
-copy-numbers-requires c κs = search needs
-
-add-folds : tie.Need-add-folds
-add-folds c =
-    let s = start (prepared (c .before .before .before .before .before)) in
-    omega (arith, few-folds (now (s .args .file)) (s .args .contents) (s .pre .prepared .walked .answer))
-
-judged-requires : tie.Need-judged-requires
-judged-requires c κs = search needs
+untried-requires : tie.Need-untried-requires
+untried-requires c κs = search needs
 
 slice-aggregate-try-all : tie.Need-slice-aggregate-try-all
 slice-aggregate-try-all c = search needs
@@ -125,7 +71,7 @@ part-try-all-start : tie.Need-part-try-all-start
 part-try-all-start c = search needs
 
 part-try-all-end : tie.Need-part-try-all-end
-part-try-all-end c = omega (arith, folds-few (c .before .before))
+part-try-all-end c = let p = prepared (begun c) in omega (arith, folds-within (start p .pre .prepared) (p .prepare .ensures))
 
 slice-aggregate-try-all-2 : tie.Need-slice-aggregate-try-all-2
 slice-aggregate-try-all-2 c = search needs
@@ -137,7 +83,7 @@ part-try-all-start-2 : tie.Need-part-try-all-start-2
 part-try-all-start-2 c = search needs
 
 part-try-all-end-2 : tie.Need-part-try-all-end-2
-part-try-all-end-2 c = omega (arith, judged-few (c .before .before .before .before .before))
+part-try-all-end-2 c = let p = prepared (begun (rules-part c)) in omega (arith, judged-within (start p .pre .prepared) (p .prepare .ensures))
 
 sub-try-all-3 : tie.Need-sub-try-all-3
 sub-try-all-3 c = search needs
@@ -146,21 +92,23 @@ part-try-all-start-3 : tie.Need-part-try-all-start-3
 part-try-all-start-3 c = search needs
 
 part-try-all-end-3 : tie.Need-part-try-all-end-3
-part-try-all-end-3 c = omega (arith, query-few (c .before .before .before .before .before .before .before))
+part-try-all-end-3 c = let p = prepared (begun (rules-part (entries-part c))) in omega (arith, asked-within (start p .pre .prepared) (p .prepare .ensures))
 
 try-all-requires : tie.Need-try-all-requires
 try-all-requires c κs =
-    let known = c .before .before .before .before .before .before .before .before .before in
-    let a = begun known .args in
-    let sound = begun known .pre in
-    let P = problemIn (now (a .file)) (numbers (now (a .query))) in (
+    let none = all-parts c .untried .ensures in
+    let p = prepared (all-parts c) in
+    let a = start p .args in
+    let sound = start p .pre in
+    let P = problemIn (now (a .file)) (numbers (now (a .query))) in
+    let none-tried = ap (λ (b : Progress). b .tried) none in (
       record {
-        prepared = decoded known;
+        prepared = papers-decoded (p .prepare .ensures) (sound .prepared);
         scenarios = sound .scenarios;
-        kept = unspoilt-kept P (sound .scenarios) (a .from) (now (a .list)) (sound .unspoilt);
-        room = omega (arith, allowed (begun known));
+        kept = rw none (unspoilt-kept P (sound .scenarios) (a .from) (now (a .list)) (sound .unspoilt));
+        room = omega (arith, allowed (start p));
       },
-      refl,
+      none-tried,
     )
 
 report-of-requires : tie.Need-report-of-requires
@@ -172,11 +120,13 @@ same-length c = search needs
 returns : tie.Need-returns
 returns c =
     let tried = c .before .before .before in
-    let known = tried .before .before .before .before .before .before .before .before .before .before in
-    let a = begun known .args in
+    let none = all-parts (tried .before) .untried .ensures in
+    let p = prepared (all-parts (tried .before)) in
+    let a = start p .args in
     let P = problemIn (now (a .file)) (numbers (now (a .query))) in
-    let ran = rw (query-is known) at (tried .try-all .ensures .is) in
-    let scenarios = begun known .pre .scenarios in (
+    let told = rw (query-part (p .prepare .ensures)) at (tried .try-all .ensures .is) in
+    let ran = ap (λ (b : Progress). steps P (a .allowance) (workOf b (now (a .list)))) (sym none) ∙ told in
+    let scenarios = start p .pre .scenarios in (
       c .report-of .ensures ∙ call-told P scenarios (a .from) (now (a .list)) (a .allowance) ran,
       call-list P scenarios (a .from) (now (a .list)) (a .allowance) ran,
     )
@@ -189,11 +139,9 @@ search-decoded-spec =
     slice-aggregate-prepare-2
     slice-aggregate-prepare-3
     slice-aggregate-prepare-4
+    slice-aggregate-prepare-5
     prepare-requires
-    slice-aggregate-copy-numbers
-    copy-numbers-requires
-    add-folds
-    judged-requires
+    untried-requires
     slice-aggregate-try-all
     sub-try-all
     part-try-all-start

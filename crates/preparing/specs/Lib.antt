@@ -1,0 +1,2 @@
+-- What preparing a call takes and leaves.
+pub mod Preparing
