@@ -17,10 +17,11 @@ use Rattle.papers.specs.Tests.{_or_}
 use Rattle.model.specs.Sets.{Set, has, empty, complement}
 use Rattle.model.specs.Iteration.{iterate}
 use Rattle.model.specs.Model.{Interpretation, trueSet, falseSet, successor, start, interpretationAt, rounds}
-use Rattle.lanes.specs.Lanes.{inLane, lane, NoneBeyond, Changed, Written, wordAt}
+use Rattle.lanes.specs.Lanes.{inLane, lane, NoneBeyond, Changed, Written}
 use Rattle.digits.specs.Digits.{AbducibleLanes}
 use Rattle.lanes.specs.Words.{otherWord, Laned}
-use Rattle.settling.specs.RoundLanes.{NextTrue, NextFalse, MadeIf, MarkedLanes, SettledLanes, HeldLanes}
+use Rattle.settling.specs.declared.Moved.{Moved}
+use Rattle.settling.specs.RoundLanes.{NextTrue, NextFalse, MadeIf, Round, MarkedLanes, SettledLanes, HeldLanes}
 use Rattle.papers.proofs.TestLaws.{is-false}
 use Rattle.model.proofs.SetLaws.{length-empty, empty-out, set-ext}
 use Rattle.lanes.proofs.LaneLaws.{lane-or, lane-none, words-same, sized, has-lane, lane-same, kept-none, complement-lane}
@@ -184,18 +185,18 @@ module _ (p : Program) (base : ℕ) where
 
   -- What the loop over rounds knows: the interpretation of the last round, whether it was still changing, and that where it left F as it was the next
   -- T is at hand, and where it left T the next F.
-  pub record Settling (j : ℕ) (going : Bool) (t f next-t next-f : List ℕ) (moved-t moved-f : ℕ) (counts : List ℕ) : Type 0 where
+  pub record Settling (j : ℕ) (going : Bool) (t f next-t next-f : List ℕ) (moved : Moved) (counts : List ℕ) : Type 0 where
     pub lanes : LanesAt j t f
     pub counted : CountedTo j counts
     pub true-beyond : NoneBeyond (judged (p .atoms)) t
     pub false-beyond : NoneBeyond (judged (p .atoms)) f
     pub goes : going ≡ true → j ≤ 2 * judged (p .atoms)
     pub rests : going ≡ false → SettledLanes p base t f counts
-    pub true-next : moved-f ≡ 0 → TrueNext f next-t
-    pub false-next : moved-t ≡ 0 → FalseNext t next-f
+    pub true-next : moved .f ≡ 0 → TrueNext f next-t
+    pub false-next : moved .t ≡ 0 → FalseNext t next-f
 
   pub settling-start : {t f : List ℕ} → t ≡ replicate 513 0 → f ≡ replicate 513 0 → (next-t next-f : List ℕ)
-      → Settling 0 true t f next-t next-f 1 1 (replicate 64 0)
+      → Settling 0 true t f next-t next-f (record { t = 1; f = 1 }) (replicate 64 0)
   settling-start e g next-t next-f = rw (e, g) record {
     lanes = lanes-start;
     counted = counted-none;
@@ -211,25 +212,23 @@ module _ (p : Program) (base : ℕ) where
   unmoved : {t t′ : List ℕ} {w : ℕ} → Changed (judged (p .atoms)) t t′ w → w ≡ 0 → (l : ℕ) → lane (judged (p .atoms)) l t ≡ lane (judged (p .atoms)) l t′
   unmoved c e l = c .same l (ap (inLane l) e ∙ lane-none l)
 
-  module _ (j w v : ℕ) (trues falses t f next-t next-f made-t made-f t′ f′ : List ℕ) (moved-t moved-f : ℕ) (counts counts′ : List ℕ)
-      (a : AbducibleLanes p base trues falses) (s : Settling j true t f next-t next-f moved-t moved-f counts)
-      (m : MadeIf moved-f (NextTrue p trues t f next-t made-t) next-t made-t) (m′ : MadeIf moved-t (NextFalse p falses t next-f made-f) next-f made-f)
-      (c : Changed (judged (p .atoms)) t made-t w) (d : Changed (judged (p .atoms)) f made-f v)
-      (x : Written (judged (p .atoms)) (wordAt made-t) t t′) (y : Written (judged (p .atoms)) (wordAt made-f) f f′) where
+  module _ {j : ℕ} {going : Bool} {trues falses next-t made-t next-f made-f t t′ f f′ counts : List ℕ} {moved moved′ : Moved}
+      (a : AbducibleLanes p base trues falses) (s : Settling j going t f next-t next-f moved counts)
+      (r : Round p trues falses moved moved′ next-t made-t next-f made-f t t′ f f′) where
     abbrev n : ℕ
     n = judged (p .atoms)
 
     true-next : TrueNext f made-t
-    true-next = true-made j moved-f trues falses t f next-t made-t a (s .lanes) m (s .true-next)
+    true-next = true-made j (moved .f) trues falses t f next-t made-t a (s .lanes) (r .true-made) (s .true-next)
 
     false-next : FalseNext t made-f
-    false-next = false-made j moved-t trues falses t f next-f made-f a m′ (s .false-next)
+    false-next = false-made j (moved .t) trues falses t f next-f made-f a (r .false-made) (s .false-next)
 
     true-same : (l : ℕ) → lane n l t′ ≡ lane n l made-t
-    true-same l = lane-same n l made-t t′ (x .at)
+    true-same l = lane-same n l made-t t′ (r .true-taken .at)
 
     false-same : (l : ℕ) → lane n l f′ ≡ lane n l made-f
-    false-same l = lane-same n l made-f f′ (y .at)
+    false-same l = lane-same n l made-f f′ (r .false-taken .at)
 
     made : LanesAt (j + 1) made-t made-f
     made = lanes-next j t f made-t made-f (s .lanes) true-next false-next
@@ -237,22 +236,27 @@ module _ (p : Program) (base : ℕ) where
     after : LanesAt (j + 1) t′ f′
     after = record { true-in = λ l h. true-same l ∙ made .true-in l h; false-in = λ l h. false-same l ∙ made .false-in l h }
 
-    told : (l : ℕ) → l < 64 → inLane l (bitOr w v) ≡ ltb j (rounds p (base + l))
-    told l b = changed-lane j t f made-t made-f w v l b (s .lanes) made c d
+    -- The lanes that a round has changed.
+    abbrev changed : ℕ
+    changed = bitOr (moved′ .t) (moved′ .f)
 
-    pub settling-next : w < 2 ^ 64 → v < 2 ^ 64 → MarkedLanes (bitOr w v) (j + 1) counts counts′
-        → Settling (j + 1) (not (eqb (bitOr w v) 0)) t′ f′ made-t made-f w v counts′
-    settling-next k k′ marked =
-        let counted = counted-next j (bitOr w v) counts counts′ told (s .counted) marked in
+    told : (l : ℕ) → l < 64 → inLane l changed ≡ ltb j (rounds p (base + l))
+    told l b = changed-lane j t f made-t made-f (moved′ .t) (moved′ .f) l b (s .lanes) made (r .true-moved) (r .false-moved)
+
+    pub settling-next : moved′ .t < 2 ^ 64 → moved′ .f < 2 ^ 64 → {counts′ : List ℕ} → MarkedLanes changed (j + 1) counts counts′
+        → Settling (j + 1) (not (eqb changed 0)) t′ f′ made-t made-f moved′ counts′
+    settling-next k k′ {counts′ = counts′} marked =
+        let counted = counted-next j changed counts counts′ told (s .counted) marked in
         record {
           lanes = after;
           counted = counted;
-          true-beyond = kept-none (x .beyond) (s .true-beyond);
-          false-beyond = kept-none (y .beyond) (s .false-beyond);
+          true-beyond = kept-none (r .true-taken .beyond) (s .true-beyond);
+          false-beyond = kept-none (r .false-taken .beyond) (s .false-beyond);
           goes = λ g.
-              let few = rounds-left j (bitOr w v) (or-lt 64 w v k k′) told (λ z. absurd (true≢false (sym g ∙ ap (λ (x : ℕ). not (eqb x 0)) z))) in
+              let word = or-lt 64 (moved′ .t) (moved′ .f) k k′ in
+              let few = rounds-left j changed word told (λ z. absurd (true≢false (sym g ∙ ap (λ (x : ℕ). not (eqb x 0)) z))) in
               omega arith;
-          rests = λ g. settled j (bitOr w v) t′ f′ counts′ told (eqb-true (bitOr w v) 0 (not-false (eqb (bitOr w v) 0) g)) after counted;
-          true-next = λ e. record { at = λ l h. true-next .at l h ∙ ap (trueSet p (base + l)) (unmoved d e l ∙ sym (false-same l)) };
-          false-next = λ e. record { at = λ l h. false-next .at l h ∙ ap (falseSet p (base + l)) (unmoved c e l ∙ sym (true-same l)) };
+          rests = λ g. settled j changed t′ f′ counts′ told (eqb-true changed 0 (not-false (eqb changed 0) g)) after counted;
+          true-next = λ e. record { at = λ l h. true-next .at l h ∙ ap (trueSet p (base + l)) (unmoved (r .false-moved) e l ∙ sym (false-same l)) };
+          false-next = λ e. record { at = λ l h. false-next .at l h ∙ ap (falseSet p (base + l)) (unmoved (r .true-moved) e l ∙ sym (true-same l)) };
         }

@@ -12,8 +12,9 @@ use Rattle.model.specs.Sets.{has}
 use Rattle.model.specs.Model.{trueSet, possibleSet, falseSet, rounds, model}
 use Rattle.rows.specs.Rows.{ruleRows, Stand}
 use Rattle.closing.specs.FalseWords.{EntriesStand}
-use Rattle.lanes.specs.Lanes.{inLane, lane, NoneBeyond, KeptFrom}
+use Rattle.lanes.specs.Lanes.{inLane, lane, NoneBeyond, KeptFrom, Changed, Written, wordAt}
 use Rattle.digits.specs.Digits.{AbducibleLanes}
+use Rattle.settling.specs.declared.Moved.{Moved}
 
 -- The rules of a valid program stand as rows of numbers at the visited places,
 pub record RulesIn (p : Program) (rules visits : List ℕ) : Type 0 where
@@ -42,6 +43,15 @@ pub record NextFalse (p : Program) (falses t before after : List ℕ) : Type 0 w
 pub record MadeIf (moved : ℕ) (made : Type 0) (before after : List ℕ) : Type 0 where
   pub anew : (moved ≡ 0 → ⊥) → made
   pub left : moved ≡ 0 → after ≡ before
+
+-- A round: T(j+1) and F(j+1), made anew or at hand, taken over for T(j) and F(j), and the lanes in which they are others.
+pub record Round (p : Program) (trues falses : List ℕ) (moved moved′ : Moved) (next-t next-t′ next-f next-f′ t t′ f f′ : List ℕ) : Type 0 where
+  pub true-made : MadeIf (moved .f) (NextTrue p trues t f next-t next-t′) next-t next-t′
+  pub false-made : MadeIf (moved .t) (NextFalse p falses t next-f next-f′) next-f next-f′
+  pub true-moved : Changed (judged (p .atoms)) t next-t′ (moved′ .t)
+  pub false-moved : Changed (judged (p .atoms)) f next-f′ (moved′ .f)
+  pub true-taken : Written (judged (p .atoms)) (wordAt next-t′) t t′
+  pub false-taken : Written (judged (p .atoms)) (wordAt next-f′) f f′
 
 -- A number in the lanes of a word, the others as they were.
 pub record MarkedLanes (word number : ℕ) (before after : List ℕ) : Type 0 where

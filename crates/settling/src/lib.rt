@@ -10,7 +10,7 @@ ghost use Rattle.papers.specs.Reading.{readFile, programIn};
 ghost use Rattle.papers.specs.Answers.{fileAnswer};
 ghost use Rattle.closing.specs.FalseWords.{EntriesStand};
 ghost use Rattle.lanes.specs.Lanes.{inLane, NoneBeyond};
-ghost use Rattle.settling.specs.RoundLanes.{Decoded, RulesIn, NextTrue, NextFalse, MadeIf, MarkedLanes, SettledLanes, HeldLanes};
+ghost use Rattle.settling.specs.RoundLanes.{Decoded, RulesIn, NextTrue, NextFalse, MadeIf, Round, MarkedLanes, SettledLanes, HeldLanes};
 use backing::backing_words;
 use closing::falsity::close_false;
 use closing::truth::close_true;
@@ -75,6 +75,65 @@ fn next_false(
     close_false(file, entries, visits, held, backing, next);
 }
 
+// The lanes in which a round has changed T and F.
+struct Moved {
+    t: u64,
+    f: u64,
+}
+
+// T(j+1) and F(j+1) from T(j) and F(j), in whose place they come; `moved` is of the round before.
+fn next_round(
+    file: &[u8],
+    atoms: u16,
+    rules: &[u16],
+    rule_visits: &[u16],
+    entries: &[u16],
+    entry_visits: &[u16],
+    trues: &[u64; 513],
+    falses: &[u64; 513],
+    moved: Moved,
+    backing: &mut [u64; 513],
+    next_t: &mut [u64; 513],
+    next_f: &mut [u64; 513],
+    t: &mut [u64; 513],
+    f: &mut [u64; 513],
+) -> Moved
+    requires { ⌜ Decoded (programIn (now file)) (now rules) (now «rule_visits») (now entries) (now «entry_visits»)
+        × (atoms ≡ (programIn (now file)) .atoms) ⌝ }
+    ensures { λ r. ⌜ Round (programIn (now (file .entry))) (now (trues .entry)) (now (falses .entry)) moved r (now («next_t» .entry))
+        (now («next_t» .exit)) (now («next_f» .entry)) (now («next_f» .exit)) (now (t .entry)) (now (t .exit)) (now (f .entry)) (now (f .exit)) ⌝ }
+{
+    let count = literals::judged(atoms);
+    next_true(
+        file,
+        rules,
+        rule_visits,
+        count,
+        trues,
+        t,
+        f,
+        moved.f,
+        next_t,
+    );
+    next_false(
+        file,
+        entries,
+        entry_visits,
+        atoms,
+        falses,
+        t,
+        moved.t,
+        backing,
+        next_f,
+    );
+    let moved_t = replace_words(t, next_t, count);
+    let moved_f = replace_words(f, next_f, count);
+    Moved {
+        t: moved_t,
+        f: moved_f,
+    }
+}
+
 // One of two numbers, by a lane of a word.
 fn by_lane(word: u64, lane: usize, set: u64, clear: u64) -> u64
     requires { ⌜ lane < 64 ⌝ }
@@ -116,44 +175,34 @@ pub fn settle_words(
         × (NoneBeyond (judged ((programIn (now (file .entry))) .atoms)) (now (t .exit))
         × NoneBeyond (judged ((programIn (now (file .entry))) .atoms)) (now (f .exit))) ⌝ }
 {
-    let count = literals::judged(contents.atoms);
     let mut trues = [0u64; 513];
     let mut falses = [0u64; 513];
     abducible_lanes(file, contents, base, &mut trues, &mut falses);
     let mut backing = [0u64; 513];
     let mut next_t = [0u64; 513];
     let mut next_f = [0u64; 513];
-    let mut moved_t: u64 = 1;
-    let mut moved_f: u64 = 1;
+    let mut moved = Moved { t: 1, f: 1 };
     let mut rounds = [0u64; 64];
     let mut round: u64 = 0;
     let mut going = true;
     while going {
-        next_true(
+        moved = next_round(
             file,
+            contents.atoms,
             rules,
             rule_visits,
-            count,
-            &trues,
-            t,
-            f,
-            moved_f,
-            &mut next_t,
-        );
-        next_false(
-            file,
             entries,
             entry_visits,
-            contents.atoms,
+            &trues,
             &falses,
-            t,
-            moved_t,
+            moved,
             &mut backing,
+            &mut next_t,
             &mut next_f,
+            t,
+            f,
         );
-        moved_t = replace_words(t, &next_t, count);
-        moved_f = replace_words(f, &next_f, count);
-        let changed = moved_t | moved_f;
+        let changed = moved.t | moved.f;
         round += 1;
         let marked = mark_lanes(changed, round, rounds);
         rounds = marked;
