@@ -1,7 +1,6 @@
 -- Rows that are decoded, ordered and marked stand, and are all visited, in parts.
 -- Assumes nothing.
-use mathlib.Core.Path.{_≡_, ap, subst, _∙_}
-use mathlib.Core.Bool.{true}
+use mathlib.Core.Path.{_≡_, ap, _∙_}
 use mathlib.Core.List.{List}
 use Prim.Native.Nat.{ℕ, _≤_, _<_}
 use native.Mathlib.Omega.{arith}
@@ -10,7 +9,7 @@ use lib.Seq.{length-take-le, getD-take}
 use Rattle.dual.specs.Bytes.{filled}
 use Rattle.arrays.specs.Staying.{StaysFrom}
 use Rattle.rows.specs.Visits.{Meets, Visits}
-use Rattle.parts.specs.Parts.{placeOf, endsPart, placesOf, Unmarked, Marked, Asks, headAt, Parted}
+use Rattle.parts.specs.Parts.{placeOf, placesOf, Unmarked, Marked, Asks, headAt, Parted}
 use Rattle.parts.proofs.MarkedParts.{place-at}
 use Rattle.rows.specs.Rows.{joined, Starts, Prepared}
 use Rattle.rows.proofs.RowLaws.{row-within, rows-stand}
