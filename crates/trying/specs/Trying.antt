@@ -9,7 +9,7 @@ use Rattle.papers.specs.Program.{Query}
 use Rattle.papers.specs.Reading.{programIn, Papers}
 use Rattle.model.specs.Model.{rounds, explains}
 use Rattle.preparing.specs.Preparing.{PapersStand}
-use Rattle.verdicts.specs.VerdictLanes.{Prepared}
+use Rattle.verdicts.specs.VerdictLanes.{DecodedPapers}
 use Rattle.trying.specs.declared.Report.{Report as CallReport}
 use Rattle.stepping.specs.declared.Progress.{Progress}
 use Rattle.steps.specs.Explanations.{Problem}
@@ -53,7 +53,7 @@ reportBy total w s = record {
 -- Papers that can be judged, a search within its bounds, and room to count `count` scenarios more.
 pub record Ready (file : List ℕ) (contents : Contents) (rules rule-visits entries entry-visits query : List ℕ) (total count : ℕ) (before : Progress)
     (list : List ℕ) : Type 0 where
-  pub prepared : Prepared file contents rules rule-visits entries entry-visits query
+  pub prepared : DecodedPapers file contents rules rule-visits entries entry-visits query
   pub scenarios : total ≡ 3 ^ length ((programIn file) .abducibles)
   pub kept : Kept total before list
   pub room : before .tried + count < 4294967296

@@ -10,7 +10,7 @@ ghost use Rattle.papers.specs.Reading.{programIn};
 ghost use Rattle.dual.specs.Bytes.{filled};
 ghost use Rattle.model.specs.Model.{rounds, modelBytes, explains};
 ghost use Rattle.preparing.specs.Preparing.{PapersStand};
-ghost use Rattle.verdicts.specs.VerdictLanes.{Prepared};
+ghost use Rattle.verdicts.specs.VerdictLanes.{DecodedPapers};
 use papers::Contents;
 use preparing::prepare;
 use settling::settle;
@@ -35,7 +35,7 @@ fn judge_decoded(
     scenario: u32,
     model: &mut [u8],
 ) -> Verdict
-    requires { ⌜ Prepared (now file) contents (now rules) (now «rule_visits») (now entries) (now «entry_visits») (now query)
+    requires { ⌜ DecodedPapers (now file) contents (now rules) (now «rule_visits») (now entries) (now «entry_visits») (now query)
         × (judged ((programIn (now file)) .atoms) ≤ length (now model)) ⌝ }
     ensures { λ r. ⌜ (r .explains ≡ explains (programIn (now (file .entry))) (now (query .entry)) scenario)
         × ((r .rounds ≡ rounds (programIn (now (file .entry))) scenario)

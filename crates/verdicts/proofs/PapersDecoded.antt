@@ -15,7 +15,7 @@ use Rattle.rows.specs.Rows.{ruleRows, entryRows}
 use Rattle.rows.proofs.RowLaws.{rule-rows-count, entry-rows-count}
 use Rattle.preparing.specs.declared.Counts.{Counts}
 use Rattle.preparing.specs.Preparing.{PapersStand, Prepares}
-use Rattle.verdicts.specs.VerdictLanes.{Prepared}
+use Rattle.verdicts.specs.VerdictLanes.{DecodedPapers}
 
 -- The first of some numbers, as a part.
 first-part : (count n : ℕ) (l : List ℕ) → count ≡ n → take (count - 0) (drop 0 l) ≡ take n l
@@ -35,7 +35,7 @@ module _ {file query rules₀ rules rule-visits₀ rule-visits entries₀ entrie
 
   -- and so are the visits.
   pub papers-decoded : {contents : Contents} {places dual : List ℕ} → PapersStand file contents places dual query
-      → Prepared file contents rules (take (counts .folds - 0) (drop 0 rule-visits)) entries (take (counts .judged - 0) (drop 0 entry-visits))
+      → DecodedPapers file contents rules (take (counts .folds - 0) (drop 0 rule-visits)) entries (take (counts .judged - 0) (drop 0 entry-visits))
       (take (counts .asked - 0) (drop 0 asked))
   papers-decoded {contents = contents} s =
       let valid = program-valid file contents (s .walked .answer) in

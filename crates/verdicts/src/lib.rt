@@ -3,7 +3,7 @@ ghost use Prim.Native.Nat.{_<_, _≤_};
 ghost use Rattle.literals.specs.Numbering.{judged};
 ghost use Rattle.papers.specs.Reading.{programIn};
 ghost use Rattle.lanes.specs.Words.{Literals};
-ghost use Rattle.verdicts.specs.VerdictLanes.{Prepared, ExplainedWord, VerdictLanes};
+ghost use Rattle.verdicts.specs.VerdictLanes.{DecodedPapers, ExplainedWord, VerdictLanes};
 use lanes::words::body_word;
 use lanes::words::other_lanes;
 use papers::Contents;
@@ -36,7 +36,7 @@ pub fn judge_lanes(
     query: &[u16],
     base: u64,
 ) -> Verdicts
-    requires { ⌜ Prepared (now file) contents (now rules) (now «rule_visits») (now entries) (now «entry_visits») (now query) × (base < 4294967296) ⌝ }
+    requires { ⌜ DecodedPapers (now file) contents (now rules) (now «rule_visits») (now entries) (now «entry_visits») (now query) × (base < 4294967296) ⌝ }
     ensures { λ r. ⌜ VerdictLanes (programIn (now (file .entry))) (now (query .entry)) base (r .explained) (r .rounds) ⌝ }
 {
     let mut t = [0u64; 513];
