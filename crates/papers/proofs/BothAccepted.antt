@@ -12,7 +12,7 @@ use Rattle.papers.specs.Program.{Program, Query}
 use Rattle.papers.specs.Valid.{ValidBody}
 use Rattle.papers.specs.Field.{numbers}
 use Rattle.papers.specs.Outcome.{accepted}
-use Rattle.papers.specs.Reading.{readFile, programIn, readSheet, readPapers}
+use Rattle.papers.specs.Reading.{Papers, readFile, programIn, readSheet, readPapers}
 use Rattle.papers.specs.Answers.{contentsOf, fileAnswer, papersAnswer}
 use Rattle.papers.proofs.Checks.{through}
 use Rattle.papers.proofs.NumberLaws.{Bytes}
@@ -28,6 +28,15 @@ pub record BothTold (bytes sheet : List ℕ) (contents : Contents) (literals : �
   pub valid : ValidBody ((programIn bytes) .atoms) query
   pub within : 3 + 2 * literals ≤ length sheet
   pub written : Bytes sheet → numbers (take (2 * literals) (drop 3 sheet)) ≡ query
+
+-- The file is accepted, as the program.
+pub papers-file : (bytes sheet : List ℕ) {q : Papers} → readPapers bytes sheet ≡ accepted q → readFile bytes ≡ accepted (q .program)
+unfolding readPapers
+papers-file bytes sheet {q} is =
+    let f = through (readFile bytes) _ is in
+    let s = through (readSheet (f .value .atoms) sheet) _ (f .after) in
+    let same : f .value ≡ q .program = cc in
+    f .first ∙ ap accepted same
 
 program-is : (bytes : List ℕ) (p : Program) → readFile bytes ≡ accepted p → programIn bytes ≡ p
 unfolding programIn

@@ -6,7 +6,7 @@ use Prim.Native.Nat.{ℕ}
 use lib.Dec.{eqb}
 use Rattle.papers.specs.declared.Paper.the-variants.{File}
 use Rattle.papers.specs.declared.Bare.{Bare}
-use Rattle.papers.specs.declared.Bare.the-variants.{ShortDual, ShortModel, NoScenario, SpoiltSearch}
+use Rattle.papers.specs.declared.Bare.the-variants.{ShortDual, ShortModel, NoScenario, SpoiltSearch, SharedBit, UnlistedBit}
 use Rattle.papers.specs.declared.Contents.{Contents}
 use Rattle.papers.specs.declared.FileRead.{FileRead}
 use Rattle.papers.specs.declared.FileRead.the-variants as file
@@ -29,17 +29,21 @@ module _ {R X : Type 0} (told : R → X) (from : X → R) (found : (r : R) → f
 
 -- ---- a refusal that names no paper: no two have one number
 
-abbrev pub bareFrom : ℕ → Bare
+abbrev bareFrom : ℕ → Bare
 bareFrom n =
     cond (eqb n (bareNumber ShortDual)) ShortDual
     (cond (eqb n (bareNumber ShortModel)) ShortModel
-    (cond (eqb n (bareNumber NoScenario)) NoScenario SpoiltSearch))
+    (cond (eqb n (bareNumber NoScenario)) NoScenario
+    (cond (eqb n (bareNumber SpoiltSearch)) SpoiltSearch
+    (cond (eqb n (bareNumber SharedBit)) SharedBit UnlistedBit))))
 
 pub bare-from : (b : Bare) → bareFrom (bareNumber b) ≡ b
 bare-from ShortDual = refl
 bare-from ShortModel = refl
 bare-from NoScenario = refl
 bare-from SpoiltSearch = refl
+bare-from SharedBit = refl
+bare-from UnlistedBit = refl
 
 -- ---- a file
 

@@ -1,10 +1,10 @@
--- Answers in document 01's numbers and values: "a definition gives this paper's number and values for each of its cases".
+-- Answers in the papers' numbers and values: "a definition gives this paper's number and values for each of its cases".
 use Prim.Native.Nat.{ℕ}
 use lib.ListN.{length}
 use Rattle.papers.specs.declared.Paper.{Paper}
 use Rattle.papers.specs.declared.Refusal.{Refusal}
 use Rattle.papers.specs.declared.Bare.{Bare}
-use Rattle.papers.specs.declared.Bare.the-variants.{ShortDual, ShortModel, NoScenario, SpoiltSearch}
+use Rattle.papers.specs.declared.Bare.the-variants.{ShortDual, ShortModel, NoScenario, SpoiltSearch, SharedBit, UnlistedBit}
 use Rattle.papers.specs.declared.Contents.{Contents}
 use Rattle.papers.specs.declared.FileRead.{FileRead}
 use Rattle.papers.specs.declared.FileRead.the-variants as file
@@ -16,12 +16,14 @@ use Rattle.papers.specs.Answers.{contentsOf}
 
 -- 11, short dual: "lent dual buffer shorter than the dual". 12, short model: "lent model buffer shorter than N". 13, no scenario: "number
 -- not below 3^k". 14, spoilt search: "position above 3^k, found above list length, or the first found entries not strictly rising or not
--- all below position".
+-- all below position". 15, shared bit: "the masks share a bit". 16, unlisted bit: "a bit at or above k is set".
 abbrev pub bareNumber : Bare → ℕ
 bareNumber ShortDual = 11
 bareNumber ShortModel = 12
 bareNumber NoScenario = 13
 bareNumber SpoiltSearch = 14
+bareNumber SharedBit = 15
+bareNumber UnlistedBit = 16
 
 -- What an answer tells: the call's values, or a refusal. "A refusal carries the number; 1 to 10 name the paper (file or sheet) and the
 -- place."

@@ -15,12 +15,14 @@ pub struct Refusal {
     pub place: usize,
 }
 
-// Document 01's refusals that name no paper and no place.
+// The papers' refusals that name no paper and no place.
 pub enum Bare {
     ShortDual,
     ShortModel,
     NoScenario,
     SpoiltSearch,
+    SharedBit,
+    UnlistedBit,
 }
 
 // Their numbers.
@@ -32,6 +34,8 @@ pub fn bare_number(bare: Bare) -> u8
         Bare::ShortModel => 12,
         Bare::NoScenario => 13,
         Bare::SpoiltSearch => 14,
+        Bare::SharedBit => 15,
+        Bare::UnlistedBit => 16,
     }
 }
 

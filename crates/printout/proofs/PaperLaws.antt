@@ -9,11 +9,11 @@ use Rattle.papers.specs.declared.Contents.{Contents}
 use Rattle.papers.specs.Field.{numbers}
 use Rattle.papers.specs.Valid.{All, Valid}
 use Rattle.papers.specs.Outcome.{Outcome, accepted}
-use Rattle.papers.specs.Reading.{Papers, readFile, readSheet, readPapers}
+use Rattle.papers.specs.Reading.{Papers, readPapers}
 use Rattle.papers.specs.Answers.{contentsOf}
 use Rattle.papers.proofs.NumberLaws.{Bytes}
 use Rattle.papers.proofs.FoldLaws.{abducibles-content, abducibles-within}
-use Rattle.papers.proofs.Checks.{through}
+use Rattle.papers.proofs.BothAccepted.{papers-file}
 use Rattle.papers.proofs.Lists.{all-each}
 use Rattle.papers.proofs.Accepted.{accepted-valid}
 use Rattle.dual.specs.Bytes.{dualOf}
@@ -34,16 +34,8 @@ pub record Small (P : Problem) : Type 0 where
   pub rounds : (s : ℕ) → P .rounds s ≤ 1026
 
 module _ (file sheet : List ℕ) {q : Papers} (is : readPapers file sheet ≡ accepted q) where
-  pub file-accepted : readFile file ≡ accepted (q .program)
-  unfolding readPapers
-  file-accepted =
-      let f = through (readFile file) _ is in
-      let s = through (readSheet (f .value .atoms) sheet) _ (f .after) in
-      let same : f .value ≡ q .program = cc in
-      f .first ∙ ap accepted same
-
   pub program-valid : Valid (q .program)
-  program-valid = accepted-valid file (q .program) file-accepted
+  program-valid = accepted-valid file (q .program) (papers-file file sheet is)
 
   pub dual-few : length (dualOf (q .program)) ≤ 52488
   dual-few = omega (arith, dual-length (q .program), dual-bound (q .program) program-valid)
@@ -75,9 +67,9 @@ module _ (file sheet : List ℕ) {q : Papers} (is : readPapers file sheet ≡ ac
     -- The abducibles are the numbers of the part of the file from place 12 on.
     module _ (bytes : Bytes file) where
       pub listed-within : 12 + 2 * contents .abducibles ≤ length file
-      listed-within = let e = listed-are in let w = abducibles-within file (q .program) bytes file-accepted in omega arith
+      listed-within = let e = listed-are in let w = abducibles-within file (q .program) bytes (papers-file file sheet is) in omega arith
 
       pub listed-there : q .program .abducibles ≡ numbers (take (12 + 2 * contents .abducibles - 12) (drop 12 file))
       listed-there =
           let e : 2 * length (q .program .abducibles) ≡ 12 + 2 * contents .abducibles - 12 = let k = listed-are in omega arith in
-          sym (abducibles-content file (q .program) bytes file-accepted) ∙ ap (λ (n : ℕ). numbers (take n (drop 12 file))) e
+          sym (abducibles-content file (q .program) bytes (papers-file file sheet is)) ∙ ap (λ (n : ℕ). numbers (take n (drop 12 file))) e
