@@ -5,14 +5,14 @@ use mathlib.Core.Bool.{Bool, true, false, not}
 use mathlib.Core.List.{List}
 use Prim.Native.Nat.{ℕ, zero, suc, _+_, _-_, _*_, _/_, _%_, _^_, _<_, _≤_}
 use native.Mathlib.Decide.{ℕ-discrete}
-use native.Mathlib.Nat.{div-one, div-div-eq-div-mul, pow-le-pow-right}
-use native.Mathlib.Numerals.{add-one}
+use native.Mathlib.Nat.{div-one, div-div-eq-div-mul}
 use native.Mathlib.Omega.{arith}
 use borrow.Author.Tests.{eq-eqb, ne-eqb}
 use lib.Bits.{bitAnd}
 use lib.Dec.{eqb}
 use lib.ListN.{length, getD, take, drop, set, replicate, length-set, length-replicate, getD-replicate}
 use lib.Seq.{getD-set-same, getD-set-other}
+use Rattle.digits.proofs.Powers.{power-next}
 use Rattle.papers.specs.Tests.{_and_, _or_}
 use Rattle.papers.proofs.TestLaws.{and-true, and-assoc, false-and}
 use Rattle.lanes.specs.Lanes.{inLane}
@@ -51,16 +51,6 @@ tabled-none base = record {
   done = record { at = λ i d l h. absurd (omega arith) };
   rest = λ o h k. getD-replicate 48 o 18446744073709551615 0 k;
 }
-
--- The power of a digit.
-pub power-fits : {power i : ℕ} → power ≡ 3 ^ i → i < 16 → (0 < power) × (power ≤ 43046721)
-power-fits {power} {i} e h =
-    let low : 3 ^ 0 ≤ 3 ^ i = pow-le-pow-right {n = 3} (omega arith) {i = 0} {j = i} (omega arith) in
-    let high : 3 ^ i ≤ 3 ^ 16 = pow-le-pow-right {n = 3} (omega arith) {i = i} {j = 16} (omega arith) in
-    (omega arith, omega arith)
-
-pub power-next : (power i : ℕ) → power ≡ 3 ^ i → power * 3 ≡ 3 ^ (i + 1)
-power-next power i e = rw (add-one i) (omega arith)
 
 module _ (i base : ℕ) (table : List ℕ) (few : i < 16) (so-far : Tabled i base table) {power : ℕ} (raised : power ≡ 3 ^ i) (assumed ruled : ℕ)
     (one : DigitLanes base power 1 assumed) (two : DigitLanes base power 2 ruled) where

@@ -3,8 +3,7 @@
 use borrow.Author.Needs.{needs}
 use mathlib.Core.Path.{_≡_}
 use mathlib.Core.List.{List}
-use Prim.Native.Nat.{ℕ, _+_, _-_, _*_, _^_, _≤_, _<_}
-use native.Mathlib.Nat.{pow-le-pow-right}
+use Prim.Native.Nat.{ℕ, _+_, _-_, _*_, _≤_, _<_}
 use native.Mathlib.Omega.{arith}
 use denote.Ref.{now}
 use lib.ListN.{length, take, drop, length-drop}
@@ -21,6 +20,7 @@ use Rattle.papers.proofs.NumberLaws.{Bytes}
 use Rattle.papers.proofs.FoldsWalked.{abducibles-there}
 use Rattle.papers.proofs.FileFacts.{atoms-are, abducibles-are, program-valid}
 use Rattle.digits.proofs.ClearedWords.{cleared as cleared-of}
+use Rattle.digits.proofs.Powers.{power-fits}
 use Rattle.digits.proofs.SeedLaws.{Seeding, seeding-none, seeding-below, seeding-more, seeding-ends}
 use Rattle.digits.proofs.abducible_lanes.Statement.{statement}
 use Rattle.digits.proofs.abducible_lanes.Tie as tie
@@ -96,16 +96,8 @@ module _ (c : tie.At-loop Inv-loop μ-loop) where
   known = counted cleared .before
 
   -- The power of 3 is one of the first sixteen.
-  bounded : c .loop .power ≤ 43046721
-  bounded =
-      let t = listed known .few in
-      let h : 3 ^ (c .loop .i) ≤ 3 ^ 16 = pow-le-pow-right {n = 3} (omega arith) {i = c .loop .i} {j = 16} (omega arith) in
-      omega (arith, c .loop .inv .1 .raised)
-
-  raised : 0 < c .loop .power
-  raised =
-      let h : 3 ^ 0 ≤ 3 ^ (c .loop .i) = pow-le-pow-right {n = 3} (omega arith) {i = 0} {j = c .loop .i} (omega arith) in
-      omega (arith, c .loop .inv .1 .raised)
+  bounded : (0 < c .loop .power) × (c .loop .power ≤ 43046721)
+  bounded = power-fits (c .loop .inv .1 .raised) (omega (arith, listed known .few))
 
 -- ---- once an atom is read
 
@@ -177,7 +169,7 @@ atom-at-requires : tie.Need-atom-at-requires Inv-loop μ-loop
 atom-at-requires c κs = omega (arith, listed (known (c .before)) .long)
 
 digit-lanes-requires : tie.Need-digit-lanes-requires Inv-loop μ-loop
-digit-lanes-requires c κs = (raised (head c), bounded (head c))
+digit-lanes-requires c κs = bounded (head c)
 
 positive-requires : tie.Need-positive-requires Inv-loop μ-loop
 positive-requires c κs = search needs
@@ -210,7 +202,7 @@ element-write-falses-2 : tie.Need-element-write-falses-2 Inv-loop μ-loop
 element-write-falses-2 c = opposite-few c
 
 mul-power : tie.Need-mul-power Inv-loop μ-loop
-mul-power c = omega (arith, bounded (head (read c)))
+mul-power c = omega (arith, bounded (head (read c)) .1)
 
 add-i : tie.Need-add-i Inv-loop μ-loop
 add-i c = omega (arith, listed (known (head (read c))) .few)

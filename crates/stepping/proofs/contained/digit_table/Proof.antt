@@ -4,8 +4,9 @@ use mathlib.Core.Path.{_≡_, subst}
 use Prim.Native.Nat.{ℕ, _-_, _^_, _≤_}
 use borrow.Author.Needs.{needs}
 use native.Mathlib.Omega.{arith}
+use Rattle.digits.proofs.Powers.{power-fits, power-next}
 use Rattle.stepping.specs.Containing.{DigitTable}
-use Rattle.stepping.proofs.ContainingLaws.{Tabled, tabled-none, tabled-more, power-fits, power-next}
+use Rattle.stepping.proofs.ContainingLaws.{Tabled, tabled-none, tabled-more}
 use Rattle.stepping.proofs.contained.digit_table.Statement.{statement}
 use Rattle.stepping.proofs.contained.digit_table.Tie as tie
 
