@@ -1,0 +1,2 @@
+-- A search that begins.
+pub mod Beginning
