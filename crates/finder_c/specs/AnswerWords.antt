@@ -13,7 +13,7 @@ use Rattle.papers.specs.Answers.{restOf}
 use Rattle.papers.specs.Told.{Told, tells, refusedBy, refusedAt, readTold, papersOf}
 use Rattle.judging.specs.Judging.{Verdict, judgeTold, dualJudged, modelJudged}
 use Rattle.search.specs.Searching.{continueTold, dualContinued, listContinued}
-use Rattle.steps.specs.declared.Record.{Record}
+use Rattle.held.specs.declared.SearchRecord.{SearchRecord}
 use Rattle.trying.specs.declared.Report.{Report}
 use Rattle.steps.specs.declared.State.{State}
 use Rattle.steps.specs.declared.State.the-variants.{Going, Full, Ended}
@@ -62,20 +62,26 @@ flagNumber false = 0
 abbrev pub judgedWords : Told Verdict → List ℕ
 judgedWords = words (λ v. two (flagNumber (v .explains)) (v .rounds)) (two 0 0)
 
+-- A fresh search: words 3 and 4 are the position and found of its record, 5 and 6 the masks, the assumed first.
+abbrev pub freshWords : Told SearchRecord → List ℕ
+freshWords = words (λ r. r .at .position ∷ r .at .found ∷ r .held .assumed ∷ r .held .ruled ∷ 0 ∷ []) (two 0 0)
+
 abbrev pub stateNumber : State → ℕ
 stateNumber Going = 0
 stateNumber Full = 1
 stateNumber Ended = 2
 
-abbrev pub recordOf : ℕ → ℕ → Record
-recordOf position found = record { position = position; found = found }
+abbrev pub recordOf : ℕ → ℕ → ℕ → ℕ → SearchRecord
+recordOf position found assumed ruled =
+    record { at = record { position = position; found = found }; held = record { assumed = assumed; ruled = ruled } }
 
 abbrev pub reportWords : Report → List ℕ
-reportWords x = x .new .position ∷ x .new .found ∷ x .tried ∷ x .rounds ∷ stateNumber (x .state) ∷ []
+reportWords x = x .new .at .position ∷ x .new .at .found ∷ x .tried ∷ x .rounds ∷ stateNumber (x .state) ∷ []
 
--- Continuing: words 3 and 4 are the record, the one given where the call is refused; 5 the scenarios tried, 6 their rounds, 7 the state.
-abbrev pub continuedWords : Record → Told Report → List ℕ
-continuedWords from = words reportWords (two (from .position) (from .found))
+-- Continuing: words 3 and 4 are the record's position and found, those given where the call is refused; 5 the scenarios tried, 6 their rounds, 7 the
+-- state. The masks are those given.
+abbrev pub continuedWords : SearchRecord → Told Report → List ℕ
+continuedWords from = words reportWords (two (from .at .position) (from .at .found))
 
 -- ---- what each call leaves
 
@@ -90,7 +96,7 @@ JudgeLeaves read s dual model after valued out =
     × ((after ≡ dualJudged read s dual model) × (valued ≡ modelJudged read s dual model))
 
 -- Continuing: the lent buffer, the lent list and the words.
-abbrev pub ContinueLeaves : Outcome Papers → ℕ → List ℕ → Record → List ℕ → List ℕ → List ℕ → List ℕ → Type 0
+abbrev pub ContinueLeaves : Outcome Papers → ℕ → List ℕ → SearchRecord → List ℕ → List ℕ → List ℕ → List ℕ → Type 0
 ContinueLeaves read allowance dual from list after left out =
     (out ≡ continuedWords from (continueTold read allowance (length dual) from list))
     × ((after ≡ dualContinued read allowance dual from list) × (left ≡ listContinued read allowance (length dual) from list))

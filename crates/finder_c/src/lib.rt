@@ -3,14 +3,18 @@
 ghost use mathlib.Core.Path.{_≡_};
 ghost use lib.ListN.{length};
 ghost use Rattle.papers.specs.Reading.{readFile, readPapers};
-ghost use Rattle.papers.specs.Told.{bareNumber};
+ghost use Rattle.papers.specs.Told.{tells, bareNumber};
 ghost use Rattle.dual_writer.specs.WrittenDual.{writtenTold, dualTold, dualAfter};
 ghost use Rattle.judging.specs.Judging.{judgedTold};
-ghost use Rattle.steps.specs.declared.Record.{Record};
+ghost use Rattle.held.specs.Masks.{masks};
+ghost use Rattle.fresh.specs.Beginning.{begunTold, freshTold};
 ghost use Rattle.search.specs.Searching.{continuedTold};
 ghost use Rattle.finder_c.specs.AnswerWords.{flagNumber, paperNumber, stateNumber, recordOf, two, acceptedWords, bareWords, refusalWords};
-ghost use Rattle.finder_c.specs.AnswerWords.{dualWords, judgedWords, reportWords, continuedWords, restLeft, JudgeLeaves, ContinueLeaves};
+ghost use Rattle.finder_c.specs.AnswerWords.{dualWords, judgedWords, freshWords, reportWords, continuedWords, restLeft, JudgeLeaves, ContinueLeaves};
 use dual_writer::DualWritten;
+use fresh::FreshAnswer;
+use held::Masks;
+use held::SearchRecord;
 use judging::Judged;
 use papers::Bare;
 use papers::Paper;
@@ -112,6 +116,42 @@ pub extern "C" fn finder_judge(
     *out = judged_words(judged);
 }
 
+fn record_words(begun: SearchRecord) -> [u64; 8]
+    ensures { λ r. ⌜ r ≡ freshWords (tells begun) ⌝ }
+{
+    let at = begun.at;
+    let held = begun.held;
+    [
+        0,
+        0,
+        0,
+        at.position as u64,
+        at.found as u64,
+        held.assumed as u64,
+        held.ruled as u64,
+        0,
+    ]
+}
+
+fn fresh_words(answer: FreshAnswer) -> [u64; 8]
+    ensures { λ r. ⌜ r ≡ freshWords (begunTold answer) ⌝ }
+{
+    match answer {
+        FreshAnswer::Begun(begun) => record_words(begun),
+        FreshAnswer::SharedBit => bare_words(Bare::SharedBit, 0, 0),
+        FreshAnswer::UnlistedBit => bare_words(Bare::UnlistedBit, 0, 0),
+        FreshAnswer::Refused(refusal) => refusal_words(refusal, 0, 0),
+    }
+}
+
+#[no_mangle]
+pub extern "C" fn finder_fresh(file: &[u8], assumed: u16, ruled: u16, out: &mut [u64; 8])
+    ensures { λ _. ⌜ now (out .exit) ≡ freshWords (freshTold (readFile (now (file .entry))) (masks assumed ruled)) ⌝ }
+{
+    let answer = fresh::fresh(file, assumed, ruled);
+    *out = fresh_words(answer);
+}
+
 fn state_number(state: State) -> u64
     ensures { λ r. ⌜ r ≡ stateNumber state ⌝ }
 {
@@ -125,7 +165,7 @@ fn state_number(state: State) -> u64
 fn report_words(report: Report) -> [u64; 8]
     ensures { λ r. ⌜ r ≡ acceptedWords (reportWords report) ⌝ }
 {
-    let new = report.new;
+    let new = report.new.at;
     let state = report.state;
     [
         0,
@@ -139,11 +179,11 @@ fn report_words(report: Report) -> [u64; 8]
     ]
 }
 
-fn continued_words(from: Record, continued: Continued) -> [u64; 8]
+fn continued_words(from: SearchRecord, continued: Continued) -> [u64; 8]
     ensures { λ r. ⌜ r ≡ continuedWords from (continuedTold continued) ⌝ }
 {
-    let position = from.position as u64;
-    let found = from.found as u64;
+    let position = from.at.position as u64;
+    let found = from.at.found as u64;
     match continued {
         Continued::Reported(report) => report_words(report),
         Continued::ShortDual => bare_words(Bare::ShortDual, position, found),
@@ -160,13 +200,17 @@ pub extern "C" fn finder_continue(
     list: &mut [u32],
     position: u32,
     found: u32,
+    assumed: u16,
+    ruled: u16,
     allowance: u32,
     out: &mut [u64; 8],
 )
-    ensures { λ _. ⌜ ContinueLeaves (readPapers (now (file .entry)) (now (sheet .entry))) allowance (now (dual .entry)) (recordOf position found)
-        (now (list .entry)) (now (dual .exit)) (now (list .exit)) (now (out .exit)) ⌝ }
+    ensures { λ _. ⌜ ContinueLeaves (readPapers (now (file .entry)) (now (sheet .entry))) allowance (now (dual .entry))
+        (recordOf position found assumed ruled) (now (list .entry)) (now (dual .exit)) (now (list .exit)) (now (out .exit)) ⌝ }
 {
-    let from = Record { position, found };
+    let at = Record { position, found };
+    let held = Masks { assumed, ruled };
+    let from = SearchRecord { at, held };
     let continued = search::continue_search(file, sheet, dual, list, from, allowance);
     *out = continued_words(from, continued);
 }

@@ -54,18 +54,18 @@ lines-length abducibles (s ∷ more) p few below small short =
     omega arith
 
 -- The found entries are at most as many as the list has places.
-pub few-found : (P : Problem) (list : List ℕ) (s : Progress) → Stands P list s → s .reached .found ≤ length list
-few-found P list s stands = let c = stop-count P (length list) (s .reached .position) (stands .within) in let f = stands .found in omega arith
+pub few-found : (P : Problem) (list : List ℕ) (s : Progress) → Stands P list s → s .reached .at .found ≤ length list
+few-found P list s stands = let c = stop-count P (length list) (s .reached .at .position) (stands .within) in let f = stands .found in omega arith
 
 -- Their lines are at most 95 bytes each.
 pub lines-few : (P : Problem) → Small P → (list : List ℕ) (s : Progress) → Stands P list s → (abducibles : List ℕ) → All (_< 1000) abducibles
-    → length abducibles ≤ 16 → length (foundLines abducibles (take (s .reached .found) list)) ≤ 95 * length list
+    → length abducibles ≤ 16 → length (foundLines abducibles (take (s .reached .at .found) list)) ≤ 95 * length list
 lines-few P small list s stands abducibles below short =
     let few = few-found P list s stands in
     let top = stop-le P (length list) in
-    let low = minimals-below P (s .reached .position) in
-    let within : s .reached .position ≤ 43046721 = let most = small .few in let reached = stands .within in omega arith in
-    let most = lines-length abducibles (minimals P (s .reached .position)) (s .reached .position) within low below short in
+    let low = minimals-below P (s .reached .at .position) in
+    let within : s .reached .at .position ≤ 43046721 = let most = small .few in let reached = stands .within in omega arith in
+    let most = lines-length abducibles (minimals P (s .reached .at .position)) (s .reached .at .position) within low below short in
     let f = stands .found in
     rw (stands .entries) (omega arith)
 
@@ -75,7 +75,7 @@ module _ {read : Outcome Papers} {q : Papers} (is : read ≡ accepted q) {L : �
     (finished : Finished (problemFor read) L s) where
   pub text-put : {n k total first second third : ℕ} {abducibles out one two three : List ℕ}
       → q .program .atoms ≡ n → length (q .program .abducibles) ≡ k → 3 ^ k ≡ total → q .program .abducibles ≡ abducibles
-      → Put 0 (headingLine n k total) out first one → Put first (foundLines abducibles (take (s .reached .found) list)) one second two
+      → Put 0 (headingLine n k total) out first one → Put first (foundLines abducibles (take (s .reached .at .found) list)) one second two
       → Put second (lastLine (s .state) (s .tried) (s .rounds)) two third three → Put 0 (searchText q L) out third three
   unfolding searchText
   text-put {n = n} {k = k} {total = total} {third = third} {abducibles = abducibles} {out = out} {three = three} en ek et ea heading found last =
@@ -84,11 +84,11 @@ module _ {read : Outcome Papers} {q : Papers} (is : read ≡ accepted q) {L : �
       let here : Stands P list s = rw same at stands in
       let done : Finished P L s = rw same at finished in
       let count : scenarios P ≡ total = ap (λ (m : ℕ). 3 ^ m) ek ∙ et in
-      let entries : minimals P (stop P L) ≡ take (s .reached .found) list = sym (here .entries ∙ ap (minimals P) (done .position)) in
+      let entries : minimals P (stop P L) ≡ take (s .reached .at .found) list = sym (here .entries ∙ ap (minimals P) (done .position)) in
       let tried : stop P L ≡ s .tried = sym (here .tried ∙ done .position) in
       let rounds : sumBelow (stop P L) (P .rounds) ≡ s .rounds = sym (here .rounds ∙ ap (λ (m : ℕ). sumBelow m (P .rounds)) (done .position)) in
       let state : lastState P L ≡ s .state = sym (done .state) in
-      let lines = foundLines abducibles (take (s .reached .found) list) in
+      let lines = foundLines abducibles (take (s .reached .at .found) list) in
       let ending = lastLine (s .state) (s .tried) (s .rounds) in
       let text : searchText q L ≡ headingLine n k total ++ (lines ++ ending) =
       λ i. headingLine (en i) (ek i) (count i) ++ (foundLines (ea i) (entries i) ++ lastLine (state i) (tried i) (rounds i)) in

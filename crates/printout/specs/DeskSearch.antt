@@ -13,6 +13,7 @@ use Rattle.steps.specs.declared.State.{State}
 use Rattle.steps.specs.declared.State.the-variants.{Going, Full, Ended}
 use Rattle.steps.specs.Explanations.{Problem, scenarios, minimals, stop, sumBelow}
 use Rattle.steps.specs.Continuing.{stateBy}
+use Rattle.held.specs.Masks.{masks}
 use Rattle.trying.specs.Trying.{problemOf}
 use Rattle.printout.specs.declared.searching.Progress.{Progress}
 
@@ -42,16 +43,18 @@ isGoing Ended = false
 
 -- Between two calls: the found entries are the minimal explanations below the position, the sums those of the scenarios below it.
 pub record Stands (P : Problem) (list : List ℕ) (s : Progress) : Type 0 where
-  pub within : s .reached .position ≤ stop P (length list)
-  pub found : s .reached .found ≡ length (minimals P (s .reached .position))
-  pub entries : take (s .reached .found) list ≡ minimals P (s .reached .position)
-  pub tried : s .tried ≡ s .reached .position
-  pub rounds : s .rounds ≡ sumBelow (s .reached .position) (P .rounds)
+  pub within : s .reached .at .position ≤ stop P (length list)
+  pub found : s .reached .at .found ≡ length (minimals P (s .reached .at .position))
+  pub entries : take (s .reached .at .found) list ≡ minimals P (s .reached .at .position)
+  pub tried : s .tried ≡ s .reached .at .position
+  pub rounds : s .rounds ≡ sumBelow (s .reached .at .position) (P .rounds)
+  -- The desk program holds no fault.
+  pub none : s .reached .held ≡ masks 0 0
 
 -- One call on, with a list of length L.
 pub record GoneOn (P : Problem) (L : ℕ) (before after : Progress) : Type 0 where
-  pub position : after .reached .position ≡ min (stop P L) (before .reached .position + 4096)
-  pub state : after .state ≡ stateBy (scenarios P) 4096 (after .reached .position) (after .reached .position - before .reached .position)
+  pub position : after .reached .at .position ≡ min (stop P L) (before .reached .at .position + 4096)
+  pub state : after .state ≡ stateBy (scenarios P) 4096 (after .reached .at .position) (after .reached .at .position - before .reached .at .position)
 
 -- The state at the stopping point: "ended: position is 3^k", else full.
 unfoldable pub lastState : Problem → ℕ → State
@@ -59,5 +62,5 @@ lastState P L = cond (eqb (stop P L) (scenarios P)) Ended Full
 
 -- Ended or full.
 pub record Finished (P : Problem) (L : ℕ) (s : Progress) : Type 0 where
-  pub position : s .reached .position ≡ stop P L
+  pub position : s .reached .at .position ≡ stop P L
   pub state : s .state ≡ lastState P L

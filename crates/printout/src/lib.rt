@@ -51,7 +51,7 @@ fn write_accepted(
     let total = scenario_count(count);
     let end = 12 + 2 * count;
     let progress = search_all(file, sheet, dual, list);
-    let reached = progress.reached;
+    let reached = progress.reached.at;
     let state = progress.state;
     let first = report::write_heading(out, 0, contents.atoms as u64, count as u64, total as u64);
     let second = write_found_lines(out, first, list, reached.found as usize, &file[12..end]);

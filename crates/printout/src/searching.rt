@@ -3,14 +3,19 @@ ghost use mathlib.Core.Path.{_≡_};
 ghost use Prim.Native.Nat.{_≤_};
 ghost use lib.ListN.{length};
 ghost use Rattle.papers.specs.Reading.{readPapers};
+ghost use Rattle.held.specs.Masks.{masks};
+ghost use Rattle.held.specs.HeldCalls.{freshSearch};
 ghost use Rattle.printout.specs.DeskSearch.{Accepted, problemOn, isGoing, Stands, GoneOn, Finished};
+use fresh::FreshAnswer;
+use held::Masks;
+use held::SearchRecord;
 use search::Continued;
 use steps::Record;
 use steps::State;
 
 // The record that the calls reached, the sums over them, and the last one's state.
 pub(crate) struct Progress {
-    pub reached: Record,
+    pub reached: SearchRecord,
     pub tried: u64,
     pub rounds: u64,
     pub state: State,
@@ -48,13 +53,32 @@ fn is_going(state: State) -> bool
     }
 }
 
+// The record of a search that begins and holds no fault. Of a refused file it is of no use.
+fn begin(file: &[u8]) -> SearchRecord
+    ensures { λ r. ⌜ r ≡ freshSearch (masks 0 0) ⌝ }
+{
+    let answer = fresh::fresh(file, 0, 0);
+    let FreshAnswer::Begun(begun) = answer else {
+        let at = Record {
+            position: 0,
+            found: 0,
+        };
+        let held = Masks {
+            assumed: 0,
+            ruled: 0,
+        };
+        return SearchRecord { at, held };
+    };
+    begun
+}
+
 pub(crate) fn search_all(file: &[u8], sheet: &[u8], dual: &mut [u8], list: &mut [u32]) -> Progress
     requires { ⌜ Accepted (readPapers (now file) (now sheet)) × (52488 ≤ length (now dual)) ⌝ }
     ensures { λ r. ⌜ Stands (problemOn (now (file .entry)) (now (sheet .entry))) (now (list .exit)) r
         × Finished (problemOn (now (file .entry)) (now (sheet .entry))) (length (now (list .entry))) r ⌝ }
 {
     let mut progress = Progress {
-        reached: search::fresh(),
+        reached: begin(file),
         tried: 0,
         rounds: 0,
         state: State::Going,

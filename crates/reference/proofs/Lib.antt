@@ -1,4 +1,4 @@
--- Document 01, "Reference calls".
+-- Document 01, "Reference calls", and those of document 02.
 
 -- Example 2.1: its file, and its dual.
 pub mod Example21
@@ -6,5 +6,7 @@ pub mod Example21
 pub mod Models
 -- Whole searches.
 pub mod Searches
+-- Whole searches with held faults.
+pub mod HeldSearches
 -- The table of the theorems.
 pub mod ReferenceCalls

@@ -1,17 +1,23 @@
--- The table of the reference calls, in document 01's order: what each says, then the theorem beside its name.
+-- The table of the reference calls, in document 01's order, then document 02's: what each says, then the theorem beside its name.
 -- Assumes nothing.
 use mathlib.Core.Path.{_≡_}
 use mathlib.Core.Bool.{true, false}
 use mathlib.Core.List.{[], _∷_}
 use lib.ListN.{length, getD}
 use Rattle.papers.specs.Outcome.{accepted}
+use Rattle.papers.specs.Told.{tells, refusedBy}
 use Rattle.papers.specs.Reading.{readFile}
 use Rattle.papers.specs.Encoding.{encodeFile}
 use Rattle.dual.specs.Table.{dual}
 use Rattle.dual.specs.TableEncoding.{encodeDual}
 use Rattle.literals.specs.Numbering.{falsum}
 use Rattle.model.specs.Model.{modelBytes, rounds, explains}
+use Rattle.steps.specs.Explanations.{stop}
 use Rattle.steps.specs.Continuing.{fresh, continue}
+use Rattle.held.specs.Masks.{masks}
+use Rattle.held.specs.HeldProblem.{heldProblem}
+use Rattle.held.specs.HeldCalls.{freshSearch}
+use Rattle.fresh.specs.Beginning.{freshTold}
 use Rattle.trying.specs.Trying.{problemOf}
 use Rattle.reference.specs.Programs.{example21, example21Dual, example31, contradiction, contradictionAllowed, queryD}
 use Rattle.reference.specs.Programs.{example32, figureP0, figureP3, figureP4, figureQ8, figureQ11}
@@ -20,6 +26,8 @@ use Rattle.reference.proofs.Models.{model21, rounds21, accepted31, mode
 use Rattle.reference.proofs.Models.{contradiction-accepted, contradiction-falsum, contradiction-none, allowed-accepted, allowed-d, allowed-explains}
 use Rattle.reference.proofs.Searches.{Read, whole, example32-read, example32-found, figureP0-read, figureP0-found, figureP3-read, figureP3-found}
 use Rattle.reference.proofs.Searches.{figureP4-read, figureP4-found, figureQ8-read, figureQ8-found, figureQ11-read, figureQ11-found}
+use Rattle.reference.proofs.HeldSearches.{assumed-begins, assumed-found, ruled-found, ruled-stop, both-ruled-found, shared-refused}
+use Rattle.reference.proofs.HeldSearches.{unlisted-refused}
 
 pub record Calls : Type 0 where
   -- "Example 2.1: a, b, c = 0, 1, 2; c :- not b; b :- a; -b; a :- not a. Model 0 2 2 1 1 2 2, 3 rounds, dual 60 bytes."
@@ -57,6 +65,17 @@ pub record Calls : Type 0 where
   pub allowed-accepted : readFile (encodeFile contradictionAllowed) ≡ accepted contradictionAllowed
   pub allowed-both : getD (modelBytes contradictionAllowed 1) 2 0 ≡ 3
   pub allowed-explained : explains contradictionAllowed queryD 1 ≡ true
+  -- Card 1. Figure 1's not p4 with a held as assumed: 1 alone; the scenarios that do not agree count as tried "with zero rounds".
+  pub assumed-begins : freshTold (readFile (encodeFile (figureP4 .program))) (masks 1 0) ≡ tells (freshSearch (masks 1 0))
+  pub assumed-found : continue (heldProblem (problemOf figureP4) (masks 1 0)) 9 fresh (0 ∷ 0 ∷ []) ≡ whole 9 1 (1 ∷ 0 ∷ []) 6
+  -- With a held as ruled out: 5, although 3 is part of it and does not agree; the stopping point where there is no room.
+  pub ruled-found : continue (heldProblem (problemOf figureP4) (masks 0 1)) 9 fresh (0 ∷ 0 ∷ []) ≡ whole 9 1 (5 ∷ 0 ∷ []) 5
+  pub ruled-stop : stop (heldProblem (problemOf figureP4) (masks 0 1)) 0 ≡ 5
+  -- With both held as ruled out, against both explanations: nothing.
+  pub both-ruled-found : continue (heldProblem (problemOf figureP4) (masks 0 3)) 9 fresh (0 ∷ 0 ∷ []) ≡ whole 9 0 (0 ∷ 0 ∷ []) 2
+  -- "15 when the masks share a bit, then 16 when a bit at or above k is set."
+  pub shared-refused : freshTold (readFile (encodeFile (figureP4 .program))) (masks 5 4) ≡ refusedBy 15
+  pub unlisted-refused : freshTold (readFile (encodeFile (figureP4 .program))) (masks 5 2) ≡ refusedBy 16
 
 pub calls : Calls
 calls = record {
@@ -86,4 +105,11 @@ calls = record {
   allowed-accepted = allowed-accepted;
   allowed-both = allowed-d;
   allowed-explained = allowed-explains;
+  assumed-begins = assumed-begins;
+  assumed-found = assumed-found;
+  ruled-found = ruled-found;
+  ruled-stop = ruled-stop;
+  both-ruled-found = both-ruled-found;
+  shared-refused = shared-refused;
+  unlisted-refused = unlisted-refused;
 }

@@ -3,15 +3,14 @@ ghost use mathlib.Core.Path.{_≡_};
 ghost use Rattle.papers.specs.declared.PapersRead.{PapersRead};
 ghost use Rattle.papers.specs.Reading.{readPapers};
 ghost use Rattle.papers.specs.Answers.{papersAnswer};
-ghost use Rattle.steps.specs.Continuing.{fresh};
 ghost use Rattle.search.specs.Searching.{Answers};
 use dual_writer::DualWritten;
+use held::SearchRecord;
+use held::is_spoilt_search;
 use model::scenario_count;
 use papers::Contents;
 use papers::PapersRead;
 use papers::Refusal;
-use spoilt::is_spoilt;
-use steps::Record;
 use trying::Report;
 use trying::search_accepted;
 
@@ -23,16 +22,6 @@ pub enum Continued {
     Refused(Refusal),
 }
 
-// The record of a search that begins.
-pub fn fresh() -> Record
-    ensures { λ r. ⌜ r ≡ fresh ⌝ }
-{
-    Record {
-        position: 0,
-        found: 0,
-    }
-}
-
 // Both papers are accepted, the query with so many literals.
 fn continue_accepted(
     file: &[u8],
@@ -41,7 +30,7 @@ fn continue_accepted(
     literals: usize,
     dual: &mut [u8],
     list: &mut [u32],
-    from: Record,
+    from: SearchRecord,
     allowance: u32,
 ) -> Continued
     requires { ⌜ papersAnswer (readPapers (now file) (now sheet)) ≡ PapersRead.Accepted contents literals ⌝ }
@@ -49,7 +38,7 @@ fn continue_accepted(
         r (now (dual .exit)) (now (list .exit)) ⌝ }
 {
     let total = scenario_count(contents.abducibles);
-    let spoilt = is_spoilt(list, from.position, from.found, total);
+    let spoilt = is_spoilt_search(list, from, contents.abducibles, total);
     let places = folds::fold_places(file, contents);
     let written = dual_writer::write_accepted(file, contents, &places, dual, !spoilt);
     let DualWritten::Length(_) = written else {
@@ -78,7 +67,7 @@ pub fn continue_search(
     sheet: &[u8],
     dual: &mut [u8],
     list: &mut [u32],
-    from: Record,
+    from: SearchRecord,
     allowance: u32,
 ) -> Continued
     ensures { λ r. ⌜ Answers (readPapers (now (file .entry)) (now (sheet .entry))) allowance (now (dual .entry)) from (now (list .entry))

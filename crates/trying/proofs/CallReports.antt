@@ -11,6 +11,7 @@ use Rattle.steps.specs.declared.Record.{Record}
 use Rattle.steps.specs.Continuing.{Work, steps, begun, reportOf, continue}
 use Rattle.steps.specs.Spoilt.{spoiltBy}
 use Rattle.stepping.specs.Stepping.{workOf, Kept}
+use Rattle.held.specs.declared.Masks.{Masks}
 use Rattle.trying.specs.Trying.{toldReport, reportBy, untried}
 use Rattle.steps.proofs.Sound.{unspoilt-bounded}
 
@@ -20,10 +21,10 @@ module _ (P : Problem) {total : ℕ} (all : total ≡ scenarios P) (from : Recor
       let b = unspoilt-bounded P from list (ap (λ (n : ℕ). spoiltBy n from list) (sym all) ∙ e) in
       record { within = omega arith; held = b .held; few = b .few; cost = omega arith }
 
-  module _ (w : ℕ) {s : Progress} {left : List ℕ} (ran : steps P w (begun from list) ≡ workOf s left) where
-    pub call-told : reportBy total w s ≡ toldReport (continue P w from list)
+  module _ (w : ℕ) (m : Masks) {s : Progress} {left : List ℕ} (ran : steps P w (begun from list) ≡ workOf s left) where
+    pub call-told : reportBy total w m s ≡ toldReport m (continue P w from list)
     unfolding continue
-    call-told = ap (λ (n : ℕ). reportBy n w s) all ∙ sym (ap (λ (x : Work). toldReport (reportOf P w x)) ran)
+    call-told = ap (λ (n : ℕ). reportBy n w m s) all ∙ sym (ap (λ (x : Work). toldReport m (reportOf P w x)) ran)
 
     pub call-list : left ≡ continue P w from list .list
     unfolding continue

@@ -1,21 +1,28 @@
-// A call over accepted papers: up to 64 scenarios judged at a time, and tried one by one.
+// A call over accepted papers: up to 64 scenarios judged at a time, those that agree with the held faults, and tried one by one.
 ghost use mathlib.Core.Path.{_≡_};
-ghost use Prim.Native.Nat.{_≤_};
+ghost use Prim.Native.Nat.{_≤_, _<_};
 ghost use Rattle.papers.specs.Field.{numbers};
 ghost use Rattle.steps.specs.Continuing.{stateBy};
 ghost use Rattle.stepping.specs.Stepping.{Batch, Tried};
-ghost use Rattle.trying.specs.Trying.{problemIn, reportBy, untried, Ready, Passed, Continues};
+ghost use Rattle.held.specs.HeldProblem.{heldProblem};
+ghost use Rattle.verdicts.specs.VerdictLanes.{DecodedPapers};
+ghost use Rattle.trying.specs.Trying.{problemIn, reportBy, untried, LanesJudged, Ready, Passed, Continues};
+use agreeing::agreeing_lanes;
+use agreeing::agreeing_rounds;
+use held::Masks;
+use held::SearchRecord;
 use papers::Contents;
 use preparing::prepare;
 use stepping::Progress;
 use stepping::try_lanes;
 use steps::Record;
 use steps::State;
+use verdicts::Verdicts;
 use verdicts::judge_lanes;
 
 // What a call reports: the new record, the scenarios tried and their rounds, and the state.
 pub struct Report {
-    pub new: Record,
+    pub new: SearchRecord,
     pub tried: u32,
     pub rounds: u64,
     pub state: State,
@@ -40,6 +47,44 @@ fn batch_size(tried: u32, allowance: u32, position: u32, total: u32) -> u32
     64
 }
 
+// The scenarios from `base` on, judged together. Where none agrees, none is judged.
+fn judge_agreeing(
+    file: &[u8],
+    contents: Contents,
+    rules: &[u16],
+    rule_visits: &[u16],
+    entries: &[u16],
+    entry_visits: &[u16],
+    query: &[u16],
+    held: Masks,
+    base: u64,
+) -> Verdicts
+    requires { ⌜ DecodedPapers (now file) contents (now rules) (now «rule_visits») (now entries) (now «entry_visits») (now query) × (base < 4294967296) ⌝ }
+    ensures { λ r. ⌜ LanesJudged (heldProblem (problemIn (now (file .entry)) (now (query .entry))) held) (contents .abducibles) base r ⌝ }
+{
+    let agreeing = agreeing_lanes(contents.abducibles, base, held);
+    if agreeing == 0 {
+        return Verdicts {
+            explained: 0,
+            rounds: [0; 64],
+        };
+    }
+    let verdicts = judge_lanes(
+        file,
+        contents,
+        rules,
+        rule_visits,
+        entries,
+        entry_visits,
+        query,
+        base,
+    );
+    let explained = verdicts.explained & agreeing;
+    let judged = verdicts.rounds;
+    let rounds = agreeing_rounds(agreeing, &judged);
+    Verdicts { explained, rounds }
+}
+
 // The next scenarios, judged together.
 fn try_batch(
     file: &[u8],
@@ -49,6 +94,7 @@ fn try_batch(
     entries: &[u16],
     entry_visits: &[u16],
     query: &[u16],
+    held: Masks,
     list: &mut [u32],
     total: u32,
     count: u32,
@@ -56,9 +102,10 @@ fn try_batch(
 ) -> Progress
     requires { ⌜ Ready (now file) contents (now rules) (now «rule_visits») (now entries) (now «entry_visits») (now query) total count before
         (now list) × (count ≤ 64) ⌝ }
-    ensures { λ r. ⌜ Tried (problemIn (now (file .entry)) (now (query .entry))) total count before (now (list .entry)) r (now (list .exit)) ⌝ }
+    ensures { λ r. ⌜ Tried (heldProblem (problemIn (now (file .entry)) (now (query .entry))) held) total count before (now (list .entry))
+        r (now (list .exit)) ⌝ }
 {
-    let verdicts = judge_lanes(
+    let verdicts = judge_agreeing(
         file,
         contents,
         rules,
@@ -66,6 +113,7 @@ fn try_batch(
         entries,
         entry_visits,
         query,
+        held,
         before.position as u64,
     );
     let explained = verdicts.explained;
@@ -90,6 +138,7 @@ fn try_all(
     entries: &[u16],
     entry_visits: &[u16],
     query: &[u16],
+    held: Masks,
     list: &mut [u32],
     total: u32,
     allowance: u32,
@@ -97,7 +146,8 @@ fn try_all(
 ) -> Progress
     requires { ⌜ Ready (now file) contents (now rules) (now «rule_visits») (now entries) (now «entry_visits») (now query) total allowance before
         (now list) × (before .tried ≡ 0) ⌝ }
-    ensures { λ r. ⌜ Tried (problemIn (now (file .entry)) (now (query .entry))) total allowance before (now (list .entry)) r (now (list .exit)) ⌝ }
+    ensures { λ r. ⌜ Tried (heldProblem (problemIn (now (file .entry)) (now (query .entry))) held) total allowance before (now (list .entry))
+        r (now (list .exit)) ⌝ }
 {
     let mut reached = before;
     let mut count = batch_size(0, allowance, reached.position, total);
@@ -111,6 +161,7 @@ fn try_all(
             entries,
             entry_visits,
             query,
+            held,
             list,
             total,
             count,
@@ -138,15 +189,16 @@ fn state_of(total: u32, allowance: u32, position: u32, tried: u32) -> State
 }
 
 // What a call reports that came so far.
-fn report_of(total: u32, allowance: u32, reached: Progress) -> Report
-    ensures { λ r. ⌜ r ≡ reportBy total allowance reached ⌝ }
+fn report_of(total: u32, allowance: u32, held: Masks, reached: Progress) -> Report
+    ensures { λ r. ⌜ r ≡ reportBy total allowance held reached ⌝ }
 {
     let state = state_of(total, allowance, reached.position, reached.tried);
+    let at = Record {
+        position: reached.position,
+        found: reached.found,
+    };
     Report {
-        new: Record {
-            position: reached.position,
-            found: reached.found,
-        },
+        new: SearchRecord { at, held },
         tried: reached.tried,
         rounds: reached.rounds,
         state,
@@ -174,7 +226,7 @@ fn search_decoded(
     query: &[u8],
     list: &mut [u32],
     total: u32,
-    from: Record,
+    from: SearchRecord,
     allowance: u32,
 ) -> Report
     requires { ⌜ Passed (now file) contents (now places) (now dual) (now query) total from (now list) ⌝ }
@@ -201,7 +253,8 @@ fn search_decoded(
     let folds = counts.folds;
     let judged = counts.judged;
     let size = counts.asked;
-    let before = untried(from);
+    let held = from.held;
+    let before = untried(from.at);
     let reached = try_all(
         file,
         contents,
@@ -210,12 +263,13 @@ fn search_decoded(
         &entries,
         &entry_visits[0..judged],
         &asked[0..size],
+        held,
         list,
         total,
         allowance,
         before,
     );
-    report_of(total, allowance, reached)
+    report_of(total, allowance, held, reached)
 }
 
 // The same; where nothing may be tried, nothing is decoded.
@@ -227,7 +281,7 @@ pub fn search_accepted(
     query: &[u8],
     list: &mut [u32],
     total: u32,
-    from: Record,
+    from: SearchRecord,
     allowance: u32,
 ) -> Report
     requires { ⌜ Passed (now file) contents (now places) (now dual) (now query) total from (now list) ⌝ }
@@ -235,7 +289,7 @@ pub fn search_accepted(
         r (now (list .exit)) ⌝ }
 {
     if allowance == 0 {
-        return report_of(total, allowance, untried(from));
+        return report_of(total, allowance, from.held, untried(from.at));
     }
     search_decoded(
         file,

@@ -23,7 +23,7 @@ returns c =
     let called = c .before .before .before .before .before in
     let a = called .before .before .before .before .before .before .before .args in
     let told = called .continue-search .ensures in
-    (c .continued-words .ensures ∙ ap (continuedWords (recordOf (a .position) (a .found))) (told .0), told .1)
+    (c .continued-words .ensures ∙ ap (continuedWords (recordOf (a .position) (a .found) (a .assumed) (a .ruled))) (told .0), told .1)
 
 pub finder-continue-spec : {M : Type 1} → statement M
 finder-continue-spec =

@@ -58,13 +58,13 @@ module _ (c : tie.After-search-all) where
   there = listed-there file sheet (both .is) (both .told) bytes
 
   -- The lines of the found entries are at most 95 bytes each.
-  lines-long : length (foundLines listed (take (c .search-all .result .reached .found) list)) ≤ 95 * length list
+  lines-long : length (foundLines listed (take (c .search-all .result .reached .at .found) list)) ≤ 95 * length list
   lines-long =
       let stands = rw (problem-is (both .is)) at (c .search-all .ensures .0) in
       let lines = lines-few (problemOf (both .papers)) (small file sheet (both .is)) list (c .search-all .result) stands in
       let few = program-valid file sheet (both .is) .fewAbducibles in
       let most = lines (both .papers .program .abducibles) (abducibles-below file sheet (both .is)) few in
-      subst (λ (l : List ℕ). length (foundLines l (take (c .search-all .result .reached .found) list)) ≤ 95 * length list) there most
+      subst (λ (l : List ℕ). length (foundLines l (take (c .search-all .result .reached .at .found) list)) ≤ 95 * length list) there most
 
 -- ---- once the heading is written
 

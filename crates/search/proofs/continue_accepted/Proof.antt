@@ -14,7 +14,8 @@ use Rattle.dual_writer.proofs.BothPapers.{papersIn, both-read, both-asked, few-
 use Rattle.dual_writer.proofs.BothPapers.{other-told, dual-fits, dual-short, dual-stays, dual-kept, dual-filled}
 use Rattle.rows.specs.DualBytes.{DualStarts}
 use Rattle.rows.proofs.EntryBytes.{filled-starts}
-use Rattle.steps.specs.Spoilt.{spoilt}
+use Rattle.held.specs.HeldCalls.{spoiltSearch}
+use Rattle.held.proofs.SearchTests.{unspoilt-record}
 use Rattle.trying.specs.Trying.{problemOf}
 use Rattle.search.proofs.ContinueLaws.{spoilt-is, answers-short, answers-spoilt, answers-report}
 use Rattle.search.proofs.continue_accepted.Statement.{statement}
@@ -29,7 +30,7 @@ few c = few-literals (both c) (c .pre)
 -- ---- once the dual is written
 
 module _ (c : tie.After-write-accepted) where
-  abbrev tested : tie.After-is-spoilt
+  abbrev tested : tie.After-is-spoilt-search
   tested = c .before .before .before .before
 
   abbrev counted : tie.After-scenario-count
@@ -47,14 +48,14 @@ module _ (c : tie.After-write-accepted) where
   program : readFile (now (start .args .file)) ≡ accepted (papers .program)
   program = told (now (start .args .file)) _ (both start .answer) .is
 
-  spoilt-told : spoilt (problemOf papers) (start .args .from) (now (start .args .list)) ≡ tested .is-spoilt .result
-  spoilt-told = spoilt-is (both start) (counted .scenario-count .ensures) (start .args .from) (now (start .args .list)) (tested .is-spoilt .ensures)
+  spoilt-told : spoiltSearch (problemOf papers) (start .args .from) (now (start .args .list)) ≡ tested .is-spoilt-search .result
+  spoilt-told = spoilt-is (both start) (counted .scenario-count .ensures) (start .args .from) (now (start .args .list)) (tested .is-spoilt-search .ensures)
 
 scenario-count-requires : tie.Need-scenario-count-requires
 scenario-count-requires c κs = few-abducibles (both (c .before .before .before .before))
 
-is-spoilt-requires : tie.Need-is-spoilt-requires
-is-spoilt-requires c κs = search needs
+is-spoilt-search-requires : tie.Need-is-spoilt-search-requires
+is-spoilt-search-requires c κs = few-abducibles (both (c .before .before .before .before .before .before))
 
 fold-places-requires : tie.Need-fold-places-requires
 fold-places-requires c κs = both (c .before .before .before .before .before .before .before) .answer
@@ -78,7 +79,7 @@ returns c =
     let ensured = w .write-accepted .ensures in
     let short = dual-short (program w) (now (a .dual)) (ensured .0) (other-told (w .write-accepted .result) (c .match .keys2)) in
     answers-short (papers w) (read w) (a .allowance) (now (a .dual)) (a .from) (now (a .list)) short
-    (dual-stays (program w) (not (tested w .is-spoilt .result)) (now (a .dual)) (ensured .1) short)
+    (dual-stays (program w) (not (tested w .is-spoilt-search .result)) (now (a .dual)) (ensured .1) short)
 
 same-length-3 : tie.Need-same-length-3
 same-length-3 c = search needs
@@ -93,7 +94,7 @@ returns-2 c =
     let ensured = w .write-accepted .ensures in
     answers-spoilt (papers w) (read w) (a .allowance) (now (a .dual)) (a .from) (now (a .list))
     (dual-fits (program w) (now (a .dual)) (ensured .0) (c .before .enum-told .given .1)) (spoilt-told w ∙ c .if1 .taken)
-    (dual-kept (program w) (not (tested w .is-spoilt .result)) (now (a .dual)) (ensured .1) (ap not (c .if1 .taken)))
+    (dual-kept (program w) (not (tested w .is-spoilt-search .result)) (now (a .dual)) (ensured .1) (ap not (c .if1 .taken)))
 
 mul-end : tie.Need-mul-end
 mul-end c = let f = few (start (c .before .before .before .before .before)) in omega arith
@@ -118,7 +119,7 @@ search-accepted-requires c κs =
     let ensured = w .write-accepted .ensures in
     let unspoilt = c .before .before .before .before .if1 .left in
     let fits = dual-fits (program w) (now (a .dual)) (ensured .0) (c .before .before .before .before .before .enum-told .given .1) in
-    let filled = dual-filled (program w) (not (tested w .is-spoilt .result)) (now (a .dual)) (ensured .1) (ap not unspoilt) fits in
+    let filled = dual-filled (program w) (not (tested w .is-spoilt-search .result)) (now (a .dual)) (ensured .1) (ap not unspoilt) fits in
     record {
       prepared = record {
         walked = w .before .before .before .fold-places .ensures;
@@ -126,7 +127,7 @@ search-accepted-requires c κs =
         asked = both-asked (both (start w)) (λ i. counted w .before .before .before .shared-slice-known2 .given i .fits);
       };
       scenarios = scenarios-are (both (start w)) (counted w .scenario-count .ensures);
-      unspoilt = sym (tested w .is-spoilt .ensures) ∙ unspoilt;
+      unspoilt = unspoilt-record _ _ _ _ (sym (tested w .is-spoilt-search .ensures) ∙ unspoilt);
     }
 
 same-length-5 : tie.Need-same-length-5
@@ -144,15 +145,15 @@ returns-3 c =
     let unspoilt = c .before .before .before .before .before .before .before .if1 .left in
     let fits = dual-fits (program w) (now (a .dual)) (ensured .0) (c .before .before .before .before .before .before .before .before .enum-told .given .1) in
     answers-report (papers w) (read w) (a .allowance) (now (a .dual)) (a .from) (now (a .list)) fits (spoilt-told w ∙ unspoilt)
-    (dual-filled (program w) (not (tested w .is-spoilt .result)) (now (a .dual)) (ensured .1) (ap not unspoilt) fits)
-    (searched .0) (searched .1)
+    (dual-filled (program w) (not (tested w .is-spoilt-search .result)) (now (a .dual)) (ensured .1) (ap not unspoilt) fits)
+    searched
 
 pub continue-accepted-spec : {M : Type 1} → statement M
 continue-accepted-spec =
     tie.close
     (tie.spec
     scenario-count-requires
-    is-spoilt-requires
+    is-spoilt-search-requires
     fold-places-requires
     write-accepted-requires
     enum-told

@@ -7,6 +7,7 @@ use denote.Ref.{now}
 use Rattle.papers.specs.Field.{numbers}
 use Rattle.steps.specs.Continuing.{steps, begun}
 use Rattle.steps.proofs.Runs.{steps-zero}
+use Rattle.held.specs.HeldProblem.{heldProblem}
 use Rattle.trying.specs.Trying.{problemIn, reportBy}
 use Rattle.trying.proofs.CallReports.{call-told, call-list}
 use Rattle.trying.proofs.search_accepted.Statement.{statement}
@@ -23,13 +24,13 @@ returns c =
     let none = c .before in
     let s = none .before .before .before .before .before .before in
     let a = s .args in
-    let P = problemIn (now (a .file)) (numbers (now (a .query))) in
-    let work = begun (a .from) (now (a .list)) in
+    let P = heldProblem (problemIn (now (a .file)) (numbers (now (a .query)))) (a .from .held) in
+    let work = begun (a .from .at) (now (a .list)) in
     let ran = ap (λ (n : ℕ). steps P n work) (none .before .if1 .taken) ∙ steps-zero P work in (
       c .report-of .ensures
-          ∙ ap (reportBy (a .total) (a .allowance)) (none .untried .ensures)
-          ∙ call-told P (s .pre .scenarios) (a .from) (now (a .list)) (a .allowance) ran,
-      call-list P (s .pre .scenarios) (a .from) (now (a .list)) (a .allowance) ran,
+          ∙ ap (reportBy (a .total) (a .allowance) (a .from .held)) (none .untried .ensures)
+          ∙ call-told P (s .pre .scenarios) (a .from .at) (now (a .list)) (a .allowance) (a .from .held) ran,
+      call-list P (s .pre .scenarios) (a .from .at) (now (a .list)) (a .allowance) (a .from .held) ran,
     )
 
 search-decoded-requires : tie.Need-search-decoded-requires

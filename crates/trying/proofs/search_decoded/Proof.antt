@@ -11,6 +11,7 @@ use Rattle.steps.specs.Continuing.{steps}
 use Rattle.stepping.specs.declared.Progress.{Progress}
 use Rattle.stepping.specs.Stepping.{workOf}
 use Rattle.verdicts.proofs.PapersDecoded.{query-part, papers-decoded}
+use Rattle.held.specs.HeldProblem.{heldProblem}
 use Rattle.trying.specs.Trying.{problemIn}
 use Rattle.trying.proofs.CallReports.{unspoilt-kept, call-told, call-list}
 use Rattle.trying.proofs.search_decoded.Statement.{statement}
@@ -29,7 +30,7 @@ abbrev begun : tie.After-rule-visits3 → tie.After-untried
 begun c = c .before .before
 
 abbrev prepared : tie.After-untried → tie.After-prepare
-prepared c = c .before .before .before .before .before .before
+prepared c = c .before .before .before .before .before .before .before
 
 abbrev rules-part : tie.After-entry-visits3 → tie.After-rule-visits3
 rules-part c = c .before .before .before
@@ -100,12 +101,12 @@ try-all-requires c κs =
     let p = prepared (all-parts c) in
     let a = start p .args in
     let sound = start p .pre in
-    let P = problemIn (now (a .file)) (numbers (now (a .query))) in
+    let P = heldProblem (problemIn (now (a .file)) (numbers (now (a .query)))) (a .from .held) in
     let none-tried = ap (λ (b : Progress). b .tried) none in (
       record {
         prepared = papers-decoded (p .prepare .ensures) (sound .prepared);
         scenarios = sound .scenarios;
-        kept = rw none (unspoilt-kept P (sound .scenarios) (a .from) (now (a .list)) (sound .unspoilt));
+        kept = rw none (unspoilt-kept P (sound .scenarios) (a .from .at) (now (a .list)) (sound .unspoilt));
         room = omega (arith, allowed (start p));
       },
       none-tried,
@@ -123,12 +124,12 @@ returns c =
     let none = all-parts (tried .before) .untried .ensures in
     let p = prepared (all-parts (tried .before)) in
     let a = start p .args in
-    let P = problemIn (now (a .file)) (numbers (now (a .query))) in
+    let P = heldProblem (problemIn (now (a .file)) (numbers (now (a .query)))) (a .from .held) in
     let told = rw (query-part (p .prepare .ensures)) at (tried .try-all .ensures .is) in
     let ran = ap (λ (b : Progress). steps P (a .allowance) (workOf b (now (a .list)))) (sym none) ∙ told in
     let scenarios = start p .pre .scenarios in (
-      c .report-of .ensures ∙ call-told P scenarios (a .from) (now (a .list)) (a .allowance) ran,
-      call-list P scenarios (a .from) (now (a .list)) (a .allowance) ran,
+      c .report-of .ensures ∙ call-told P scenarios (a .from .at) (now (a .list)) (a .allowance) (a .from .held) ran,
+      call-list P scenarios (a .from .at) (now (a .list)) (a .allowance) (a .from .held) ran,
     )
 
 pub search-decoded-spec : {M : Type 1} → statement M

@@ -5,17 +5,19 @@ use Prim.Native.Nat.{_+_, _-_}
 use native.Mathlib.Omega.{arith}
 use borrow.Author.Needs.{needs}
 use Rattle.stepping.specs.Stepping.{Batch, Tried}
+use Rattle.held.specs.HeldProblem.{heldProblem}
 use Rattle.trying.specs.Trying.{problemIn}
 use Rattle.trying.proofs.Batches.{tried-none, tried-then, tried-short, tried-done}
 use Rattle.trying.proofs.try_all.Statement.{statement}
 use Rattle.trying.proofs.try_all.Tie as tie
 
 abbrev Inv-loop : tie.InvT-loop
-Inv-loop file contents rules rule-visits entries entry-visits query list₀ total allowance reached₀ count₀ list reached count =
-    Batch (reached .tried) allowance (reached .position) total count × Tried (problemIn file query) total (reached .tried) reached₀ list₀ reached list
+Inv-loop file contents rules rule-visits entries entry-visits query held list₀ total allowance reached₀ count₀ list reached count =
+    Batch (reached .tried) allowance (reached .position) total count
+    × Tried (heldProblem (problemIn file query) held) total (reached .tried) reached₀ list₀ reached list
 
 abbrev μ-loop : tie.MeasureT-loop
-μ-loop file contents rules rule-visits entries entry-visits query list₀ total allowance reached₀ count₀ list reached count = allowance - reached .tried
+μ-loop file contents rules rule-visits entries entry-visits query held list₀ total allowance reached₀ count₀ list reached count = allowance - reached .tried
 
 batch-size-requires : tie.Need-batch-size-requires Inv-loop μ-loop
 batch-size-requires c κs = (omega arith, c .before .before .before .before .before .before .before .pre .0 .kept .within)

@@ -2,21 +2,18 @@
 -- Assumes nothing.
 use mathlib.Core.Path.{_∙_, ap}
 use Prim.Native.Nat.{ℕ, _^_}
-use native.Mathlib.Omega.{arith}
 use borrow.Author.Needs.{needs}
 use denote.Ref.{now}
-use Rattle.papers.specs.Reading.{programIn}
-use Rattle.papers.proofs.FileFacts.{abducibles-are, atoms-are, few-atoms}
+use Rattle.papers.proofs.FileFacts.{abducibles-are}
 use Rattle.trying.proofs.Batches.{tried-lanes}
-use Rattle.trying.proofs.JudgedLanes.{judged-lanes, judged-cost}
 use Rattle.trying.proofs.try_batch.Statement.{statement}
 use Rattle.trying.proofs.try_batch.Tie as tie
 
-cast-judge-lanes : tie.Need-cast-judge-lanes
-cast-judge-lanes c = search needs
+cast-judge-agreeing : tie.Need-cast-judge-agreeing
+cast-judge-agreeing c = search needs
 
-judge-lanes-requires : tie.Need-judge-lanes-requires
-judge-lanes-requires c κs = search needs
+judge-agreeing-requires : tie.Need-judge-agreeing-requires
+judge-agreeing-requires c κs = search needs
 
 try-lanes-requires : tie.Need-try-lanes-requires
 try-lanes-requires c κs =
@@ -24,15 +21,12 @@ try-lanes-requires c κs =
     let start = judged .before .before .before .before .before .before .before .before .before in
     let a = start .args in
     let ready = start .pre .0 in
-    let answer = ready .prepared .answer in
-    let same = atoms-are (now (a .file)) (a .contents) answer in
-    let few = few-atoms (now (a .file)) (a .contents) answer in
     record {
-      scenarios = ready .scenarios ∙ ap (λ (n : ℕ). 3 ^ n) (abducibles-are (now (a .file)) (a .contents) answer);
+      scenarios = ready .scenarios ∙ ap (λ (n : ℕ). 3 ^ n) (abducibles-are (now (a .file)) (a .contents) (ready .prepared .answer));
       kept = ready .kept;
       lanes = start .pre .1;
       room = ready .room;
-      cost = judged-cost (programIn (now (a .file))) (now (a .query)) (judged .judge-lanes .ensures) (omega arith);
+      cost = judged .judge-agreeing .ensures .cost;
     }
 
 same-length : tie.Need-same-length
@@ -41,13 +35,9 @@ same-length c = search needs
 returns : tie.Need-returns
 returns c =
     let judged = c .before .before .before .before .before .before in
-    let start = judged .before .before .before .before .before .before .before .before .before in
-    let a = start .args in
-    let answer = start .pre .0 .prepared .answer in
-    tried-lanes (c .before .before .try-lanes .ensures)
-    (judged-lanes (programIn (now (a .file))) (now (a .query)) (judged .judge-lanes .ensures) (abducibles-are (now (a .file)) (a .contents) answer))
+    tried-lanes (c .before .before .try-lanes .ensures) (judged .judge-agreeing .ensures .lanes)
 
 pub try-batch-spec : {M : Type 1} → statement M
 try-batch-spec =
     tie.close
-    (tie.spec cast-judge-lanes judge-lanes-requires try-lanes-requires same-length returns)
+    (tie.spec cast-judge-agreeing judge-agreeing-requires try-lanes-requires same-length returns)

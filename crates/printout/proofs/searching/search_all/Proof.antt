@@ -50,17 +50,17 @@ module _ (c : tie.After-is-going Inv-loop μ-loop) where
       let L = length (now (start .args .list)) in
       let was = head .loop .progress in
       let e = head .loop .inv .1 .1 .1 in
-      let within = subst (λ (n : ℕ). was .reached .position ≤ stop problem n) e (head .loop .inv .0 .within) in
+      let within = subst (λ (n : ℕ). was .reached .at .position ≤ stop problem n) e (head .loop .inv .0 .within) in
       let gone = subst (λ (n : ℕ). GoneOn problem n was progress) e (called .go-on .ensures .1) in
       subst (Turned problem L was progress) (sym (c .is-going .ensures)) (turned problem L was progress within gone)
 
-fresh-requires : tie.Need-fresh-requires Inv-loop μ-loop
-fresh-requires c κs = search needs
+begin-requires : tie.Need-begin-requires Inv-loop μ-loop
+begin-requires c κs = search needs
 
 loop-holds : tie.Need-loop-holds Inv-loop μ-loop
 loop-holds c =
     let a = c .before .before .before .before .before .args in (
-      begins (problemOn (now (a .file)) (now (a .sheet))) (now (a .list)) _ (c .fresh .ensures) refl refl,
+      begins (problemOn (now (a .file)) (now (a .sheet))) (now (a .list)) _ (c .begin .ensures) refl refl,
       ((λ h. absurd (true≢false cc)), (refl, refl)),
     )
 
@@ -99,7 +99,7 @@ search-all-spec =
     (tie.spec
     Inv-loop
     μ-loop
-    fresh-requires
+    begin-requires
     loop-holds
     go-on-requires
     is-going-requires

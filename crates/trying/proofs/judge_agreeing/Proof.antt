@@ -1,0 +1,76 @@
+-- `trying::judge_agreeing` meets its contract: no lane agrees, or those that do are judged.
+-- Assumes nothing.
+use mathlib.Core.Path.{_≡_}
+use mathlib.Core.List.{List}
+use Prim.Native.Nat.{ℕ, _≤_}
+use native.Mathlib.Omega.{arith}
+use borrow.Author.Needs.{needs}
+use denote.Ref.{now}
+use Rattle.papers.specs.Reading.{programIn}
+use Rattle.papers.proofs.FileFacts.{abducibles-are, atoms-are, few-atoms, program-valid}
+use Rattle.steps.specs.Explanations.{Problem}
+use Rattle.agreeing.proofs.HeldLanes.{held-lanes, none-lanes, held-cost, none-cost}
+use Rattle.trying.specs.Trying.{problemIn}
+use Rattle.trying.proofs.JudgedLanes.{judged-lanes, judged-cost}
+use Rattle.trying.proofs.judge_agreeing.Statement.{statement}
+use Rattle.trying.proofs.judge_agreeing.Tie as tie
+
+module _ (c : tie.Start) where
+  abbrev file : List ℕ
+  file = now (c .args .file)
+
+  -- The problem of the papers, whatever is held.
+  abbrev problem : Problem
+  problem = problemIn file (now (c .args .query))
+
+  abducibles : problem .abducibles ≡ c .args .contents .abducibles
+  abducibles = abducibles-are file (c .args .contents) (c .pre .0 .answer)
+
+  few : (programIn file) .atoms ≤ 256
+  few = let n = few-atoms file (c .args .contents) (c .pre .0 .answer) in omega (arith, atoms-are file (c .args .contents) (c .pre .0 .answer))
+
+abbrev start : tie.After-agreeing-lanes → tie.Start
+start c = c .before .before .before .before .before .before .before
+
+agreeing-lanes-requires : tie.Need-agreeing-lanes-requires
+agreeing-lanes-requires c κs =
+    let s = c .before .before .before .before .before .before in
+    omega (arith, abducibles s, program-valid (file s) (s .args .contents) (s .pre .0 .answer) .fewAbducibles)
+
+returns : tie.Need-returns
+returns c =
+    let s = start (c .before) in
+    record {
+      lanes = none-lanes (problem s) (s .args .held) (s .args .contents .abducibles) (s .args .base) (abducibles s) (c .before .agreeing-lanes .ensures)
+          (c .if1 .taken);
+      cost = λ l h. none-cost 1026 l;
+    }
+
+judge-lanes-requires : tie.Need-judge-lanes-requires
+judge-lanes-requires c κs = search needs
+
+agreeing-rounds-requires : tie.Need-agreeing-rounds-requires
+agreeing-rounds-requires c κs = search needs
+
+returns-2 : tie.Need-returns-2
+returns-2 c =
+    let judged = c .before .before .before .before in
+    let agreeing = judged .before .before in
+    let s = start agreeing in
+    let verdicts = judged .judge-lanes .ensures in
+    let kept = c .agreeing-rounds .ensures in
+    record {
+      lanes = held-lanes (problem s) (s .args .held) (s .args .contents .abducibles) (s .args .base)
+          (judged-lanes (programIn (file s)) (now (s .args .query)) verdicts (abducibles s)) (agreeing .agreeing-lanes .ensures) kept;
+      cost = held-cost 1026 kept (judged-cost (programIn (file s)) (now (s .args .query)) verdicts (few s));
+    }
+
+pub judge-agreeing-spec : {M : Type 1} → statement M
+judge-agreeing-spec =
+    tie.close
+    (tie.spec
+    agreeing-lanes-requires
+    returns
+    judge-lanes-requires
+    agreeing-rounds-requires
+    returns-2)
