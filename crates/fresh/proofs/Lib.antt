@@ -1,2 +1,6 @@
--- A search that begins: with masks that pass 15 and 16, and the fresh record.
+-- A search that begins.
+
+-- It has masks that pass 15 and 16, and the fresh record.
 pub mod FreshLaws
+-- What is told of it fixes the answer.
+pub mod BegunTold
