@@ -4,7 +4,7 @@ use crate::dual::LONGEST_DUAL;
 use crate::program::{Program, Query};
 use crate::read::read_papers;
 use crate::scenario::{digits, scenario_count, Digit};
-use crate::search::{Record, Search, State};
+use crate::search::{fresh_over, Search, State};
 
 /// The bytes of a paper that are read. No accepted paper is longer.
 pub const READ_BYTES: usize = 65_536;
@@ -70,12 +70,12 @@ struct WholeSearch {
     rounds: u64,
 }
 
-/// Continues a fresh search until ended or full.
+/// Continues a fresh search, with no fault held, until ended or full.
 fn search_whole(program: Program, query: Query) -> WholeSearch {
     let mut search = Search::new(program, query);
     let mut dual = vec![0; LONGEST_DUAL];
     let mut list = vec![0; LIST_LENGTH];
-    let mut record = Record::FRESH;
+    let mut record = fresh_over(search.program(), 0, 0).expect("masks without a bit");
     let (mut tried, mut rounds) = (0, 0);
     loop {
         let continued = search

@@ -1,7 +1,7 @@
-//! A separate fault finder, written from document 01 alone.
+//! A separate fault finder, written from documents 01 and 02 alone.
 //!
 //! It is meant to be compared with, so it is written to be read against the
-//! document line by line; speed comes second. Each part of the document has
+//! documents line by line; speed comes second. Each part of document 01 has
 //! its module here:
 //!
 //! * "Numberings" is [`numbering`];
@@ -11,6 +11,8 @@
 //! * "Scenarios and the model" is [`scenario`], [`sets`] and [`mod@model`],
 //!   with falsity from the dual in [`falsity`];
 //! * "The search" is [`search`], and what the desk program prints [`mod@desk`].
+//!
+//! Of document 02, Card 1 is [`held`], which [`search`] goes by.
 
 #![forbid(unsafe_code)]
 
@@ -18,6 +20,7 @@ pub mod desk;
 pub mod dual;
 pub mod falsity;
 pub mod field;
+pub mod held;
 pub mod model;
 pub mod numbering;
 pub mod program;
@@ -31,15 +34,18 @@ pub mod write;
 pub use desk::desk;
 pub use dual::{dual, write_dual, Dual, Entry, Folding};
 pub use falsity::next_false_by_dual;
+pub use held::Held;
 pub use model::{explains, judge, model, Interpretation, Judgement, Model};
 pub use numbering::{Atom, Fold, Form, Literal, ObjectiveLiteral};
 pub use program::{Program, Query, Rule};
 pub use read::{read_file, read_papers, read_sheet, rest_of_paper};
-pub use refusal::{ContinueRefusal, JudgeRefusal, Number, Paper, Refusal, WriteRefusal};
+pub use refusal::{
+    ContinueRefusal, FreshRefusal, JudgeRefusal, Number, Paper, Refusal, WriteRefusal,
+};
 pub use scenario::{contains_assumptions, digits, scenario_count, Digit, Valuation, Value};
 pub use search::{
-    continue_search, explanations, minimal_explanations, minimal_of, stopping_point, Continued,
-    Record, Search, State,
+    continue_search, explanations, fresh, fresh_over, minimal_explanations, minimal_of,
+    stopping_point, Continued, Record, Search, State,
 };
 pub use sets::JudgedSet;
 pub use write::{encode_dual, encode_file, encode_sheet};

@@ -1,5 +1,6 @@
 //! Refusals 1 to 10, which name a paper and a place in it, and those of each
-//! call: writing the dual has 11 too, judging 11 to 13, continuing 11 and 14.
+//! call: writing the dual has 11 too, judging 11 to 13, continuing 11 and 14, a
+//! fresh search 15 and 16.
 
 use std::fmt;
 
@@ -105,6 +106,27 @@ impl JudgeRefusal {
     }
 }
 
+/// Why a search was not begun.
+#[derive(Clone, Copy, Debug, PartialEq, Eq)]
+pub enum FreshRefusal {
+    /// 1 to 10: the file is not accepted.
+    File(Refusal),
+    /// 15: the masks share a bit.
+    SharedBit,
+    /// 16: a bit at or above k is set.
+    UnlistedBit,
+}
+
+impl FreshRefusal {
+    pub fn number(&self) -> u8 {
+        match self {
+            FreshRefusal::File(refusal) => refusal.number as u8,
+            FreshRefusal::SharedBit => 15,
+            FreshRefusal::UnlistedBit => 16,
+        }
+    }
+}
+
 /// Why a search was not continued.
 #[derive(Clone, Copy, Debug, PartialEq, Eq)]
 pub enum ContinueRefusal {
@@ -112,8 +134,9 @@ pub enum ContinueRefusal {
     Papers(Refusal),
     /// 11: the lent dual buffer is shorter than the dual.
     ShortDual,
-    /// 14: position above 3^k, found above list length, or the first found
-    /// entries not strictly rising or not all below position.
+    /// 14: position above 3^k, found above list length, the first found entries
+    /// not strictly rising or not all below position, or masks that 15 or 16
+    /// would refuse.
     SpoiltSearch,
 }
 

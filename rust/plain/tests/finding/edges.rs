@@ -1,10 +1,11 @@
 //! Programs as large as a file can hold.
 
 use calls::lent::list_pattern;
-use plain::{Atom, Literal, ObjectiveLiteral, Program, Query, Record, Rule, State};
+use plain::{Atom, Literal, ObjectiveLiteral, Program, Query, Rule, State};
 use random::seed::seed;
 use random::Random;
 
+use crate::holding::fresh;
 use crate::lent::{continued, judged};
 
 const OBJECTIVE: u16 = 512;
@@ -119,7 +120,7 @@ fn many_scenarios_of_a_random_program() {
         integrity_bodies: (0..INTEGRITY_RULES).map(|_| body(BODY)).collect(),
     };
     let mut list = list_pattern(3);
-    let continued = continued(&program, &NO_QUERY, &mut list, Record::FRESH, 500);
+    let continued = continued(&program, &NO_QUERY, &mut list, fresh(&program), 500);
     assert_eq!(continued.tried, 500);
     assert_eq!(continued.state, State::Going);
     assert!(continued.rounds > 500);

@@ -1,14 +1,16 @@
-//! Fresh searches in random slices, on random programs, against the
-//! definition: all explanations first, then the minimal ones.
+//! Fresh searches in random slices, on random programs and with random held
+//! faults, against the definition: all explanations of that search first, then
+//! the minimal ones.
 
 use plain::{
     continue_search, dual, encode_dual, encode_file, encode_sheet, explanations, judge,
-    minimal_explanations, scenario_count, stopping_point, ContinueRefusal, Continued, Program,
-    Query, Record, Search, State,
+    minimal_explanations, scenario_count, stopping_point, ContinueRefusal, Continued, Held,
+    Program, Query, Record, Search, State,
 };
 use random::seed::seed;
 use random::Random;
 
+use crate::holding::{agrees, at_holding, fresh_holding, masks};
 use crate::programs::{program, query};
 
 const PROGRAMS: usize = 3_000;
@@ -28,18 +30,27 @@ struct Reached {
     several_minimal: usize,
     no_room: usize,
     one_scenario: usize,
+    held: usize,
+    /// Scenarios tried that do not agree.
+    not_agreeing: usize,
+    /// Minimal explanations that are not where no fault is held.
+    minimal_by_held: usize,
 }
 
 /// A fresh search and what the definition says of it.
 struct FreshSearch {
     file: Vec<u8>,
     sheet: Vec<u8>,
+    held: Held,
     dual: Vec<u8>,
     explanations: Vec<u32>,
     minimal: Vec<u32>,
+    /// The minimal explanations where no fault is held.
+    minimal_of_none: Vec<u32>,
     stop: u32,
     scenarios: u32,
-    /// The round count of each scenario, judged by a call of its own.
+    /// The round count of each scenario, judged by a call of its own, and zero
+    /// where it does not agree.
     rounds: Vec<u64>,
     /// The same search with its judgements kept.
     keeping: Search,
@@ -52,27 +63,31 @@ impl FreshSearch {
     fn new(random: &mut Random, program: Program, query: Query) -> Self {
         let (file, sheet) = (encode_file(&program), encode_sheet(&query));
         let scenarios = scenario_count(&program);
-        let minimal = minimal_explanations(&program, &query);
+        let held = masks(random, &program);
+        let minimal = minimal_explanations(&program, &query, held);
         let length = random.below(minimal.len() + 3);
         let list: Vec<u32> = (0..length).map(|_| random.word() as u32).collect();
         let (mut dual_buffer, mut model) = (vec![0; 60_000], vec![0; 513]);
         let rounds = (0..scenarios).map(|scenario| {
             let judgement = judge(&file, &sheet, scenario, &mut dual_buffer, &mut model);
-            judgement.unwrap().rounds
+            let rounds = judgement.unwrap().rounds;
+            rounds * u64::from(agrees(held, scenario))
         });
         FreshSearch {
             rounds: rounds.collect(),
             dual: encode_dual(&dual(&program)),
-            explanations: explanations(&program, &query),
+            explanations: explanations(&program, &query, held),
+            minimal_of_none: minimal_explanations(&program, &query, Held::NONE),
             stop: stopping_point(&program, &minimal, length),
             scenarios,
             minimal,
+            record: fresh_holding(&program, held),
             keeping: Search::keeping(program, query),
             list_before: list.clone(),
             list,
-            record: Record::FRESH,
             file,
             sheet,
+            held,
         }
     }
 
@@ -94,10 +109,7 @@ impl FreshSearch {
             State::Going
         };
         Continued {
-            record: Record {
-                position: end,
-                found: found as u32,
-            },
+            record: at_holding(end, found as u32, self.held),
             tried,
             rounds: self.rounds[position as usize..end as usize].iter().sum(),
             state,
@@ -136,6 +148,20 @@ impl FreshSearch {
         self.record = expected.record;
         expected
     }
+
+    /// One call that goes as far as the slices gives what they gave, and their sum
+    /// of rounds.
+    fn compare_with_one_call(&self, rounds: u64) {
+        let FreshSearch { file, sheet, .. } = self;
+        let fresh = at_holding(0, 0, self.held);
+        let mut lent = vec![0; self.dual.len()];
+        let mut list = self.list_before.clone();
+        let answer = continue_search(file, sheet, &mut lent, &mut list, fresh, u32::MAX).unwrap();
+        assert_eq!(answer.record, self.record);
+        assert_eq!(answer.tried, self.record.position);
+        assert_eq!(answer.rounds, rounds);
+        assert_eq!(list, self.list);
+    }
 }
 
 fn count(search: &FreshSearch, before: Record, continued: &Continued, reached: &mut Reached) {
@@ -148,6 +174,8 @@ fn count(search: &FreshSearch, before: Record, continued: &Continued, reached: &
         reached.not_minimal += search.explanations.iter().filter(is_not_minimal).count();
         reached.added_later += (after.found - before.found) as usize;
     }
+    let is_not_agreeing = |&scenario: &u32| !agrees(search.held, scenario);
+    reached.not_agreeing += tried.clone().filter(is_not_agreeing).count();
     match continued.state {
         State::Ended => reached.ended += 1,
         State::Full => reached.full += 1,
@@ -158,6 +186,7 @@ fn count(search: &FreshSearch, before: Record, continued: &Continued, reached: &
 /// Goes on in random slices until ended, or until full twice.
 fn go_through(random: &mut Random, search: &mut FreshSearch, reached: &mut Reached) {
     let mut stops = 0;
+    let mut rounds = 0;
     while stops < 2 {
         if random.one_in(10) {
             search.refused_call(random);
@@ -173,7 +202,17 @@ fn go_through(random: &mut Random, search: &mut FreshSearch, reached: &mut Reach
         let continued = search.call(allowance, beyond);
         count(search, before, &continued, reached);
         stops += usize::from(continued.state != State::Going);
+        rounds += continued.rounds;
     }
+    search.compare_with_one_call(rounds);
+}
+
+/// The explanations are those where no fault is held, less those that do not
+/// agree.
+fn compare_explanations(program: &Program, query: &Query, search: &FreshSearch) {
+    let mut expected = explanations(program, query, Held::NONE);
+    expected.retain(|&scenario| agrees(search.held, scenario));
+    assert_eq!(search.explanations, expected);
 }
 
 #[test]
@@ -183,10 +222,14 @@ fn a_fresh_search_in_slices_finds_the_minimal_explanations() {
     for _ in 0..PROGRAMS {
         let program = program(&mut random, 4, 4);
         let query = query(&mut random, &program);
-        let mut search = FreshSearch::new(&mut random, program, query);
+        let mut search = FreshSearch::new(&mut random, program.clone(), query.clone());
+        compare_explanations(&program, &query, &search);
         reached.several_minimal += usize::from(search.minimal.len() > 1);
         reached.no_room += usize::from(search.list.is_empty() && !search.minimal.is_empty());
         reached.one_scenario += usize::from(search.scenarios == 1);
+        reached.held += usize::from(search.held != Held::NONE);
+        let is_by_held = |scenario: &&u32| !search.minimal_of_none.contains(scenario);
+        reached.minimal_by_held += search.minimal.iter().filter(is_by_held).count();
         go_through(&mut random, &mut search, &mut reached);
     }
     let Reached {
@@ -199,15 +242,24 @@ fn a_fresh_search_in_slices_finds_the_minimal_explanations() {
         several_minimal,
         no_room,
         one_scenario,
+        held,
+        not_agreeing,
+        minimal_by_held,
     } = reached;
-    let counts = [ended, full, going, refused, added_later, not_minimal];
+    let often = [ended, full, going, refused, not_minimal, held, not_agreeing];
     assert!(
-        counts.iter().all(|&count| count > PROGRAMS / 20),
+        often.iter().all(|&count| count > PROGRAMS / 20),
         "{reached:?}"
     );
-    let kinds = [several_minimal, no_room, one_scenario];
+    let less_often = [
+        added_later,
+        several_minimal,
+        no_room,
+        one_scenario,
+        minimal_by_held,
+    ];
     assert!(
-        kinds.iter().all(|&count| count > PROGRAMS / 100),
+        less_often.iter().all(|&count| count > PROGRAMS / 100),
         "{reached:?}"
     );
 }

@@ -1,13 +1,14 @@
 //! Judging, searching and the desk.
 //!
 //! The first modules are what the others use: the example of document 01, bytes
-//! by hand, calls that check what must stay in lent buffers, random programs, and
-//! programs as text.
+//! by hand, records and masks, calls that check what must stay in lent buffers,
+//! random programs, and programs as text.
 
 #[path = "../example/mod.rs"]
 mod example;
 #[path = "../hand/mod.rs"]
 mod hand;
+mod holding;
 mod lent;
 mod programs;
 mod text;
@@ -16,6 +17,7 @@ mod desk;
 mod edges;
 mod falsity;
 mod fresh;
+mod held;
 mod judging;
 mod least;
 mod records;

@@ -1,18 +1,19 @@
-//! Continuing from random records with random lists, not reached from a fresh
-//! search, and test 14 on them.
+//! Continuing from random records with random lists and masks, not reached from a
+//! fresh search, and test 14 on them.
 //!
-//! What the general rule adds is found here all at once: of the explanations at
-//! or after the position that contain no listed entry's assumptions, those that
-//! contain no other of them. The first of them that has no room is the stopping
-//! point.
+//! What the general rule adds is found here all at once: of the agreeing
+//! explanations at or after the position that contain no listed entry's
+//! assumptions, those that contain no other of them. The first of them that has
+//! no room is the stopping point.
 
 use plain::{
-    contains_assumptions, minimal_of, scenario_count, ContinueRefusal, Continued, Record, Search,
-    State,
+    contains_assumptions, minimal_of, scenario_count, ContinueRefusal, Continued, Held, Program,
+    Record, Search, State,
 };
 use random::seed::seed;
 use random::Random;
 
+use crate::holding::{agrees, at_holding, masks};
 use crate::programs::{program, query};
 
 const PROGRAMS: usize = 2_000;
@@ -22,17 +23,21 @@ const RECORDS: usize = 30;
 #[derive(Debug, Default)]
 struct Reached {
     spoilt: usize,
+    /// By their masks alone.
+    spoilt_by_masks: usize,
     ended: usize,
     full: usize,
     going: usize,
     added: usize,
+    /// Entries added to a search with held faults.
+    added_holding: usize,
     /// Entries added that are not minimal by the definition.
     not_minimal: usize,
     /// Minimal explanations tried and not added.
     left_out: usize,
 }
 
-/// Test 14 in other words.
+/// Test 14 in other words, without its masks.
 fn is_spoilt(scenarios: u32, list: &[u32], record: Record) -> bool {
     let found = record.found as usize;
     if record.position > scenarios || found > list.len() {
@@ -44,6 +49,17 @@ fn is_spoilt(scenarios: u32, list: &[u32], record: Record) -> bool {
     sorted != list[..found] || sorted.last().is_some_and(|&last| last >= record.position)
 }
 
+/// Whether 15 or 16 would refuse the masks, in other words.
+fn has_spoilt_masks(program: &Program, held: Held) -> bool {
+    let has_bit = |mask: u16, bit: usize| mask & (1 << bit) != 0;
+    (0..16).any(|bit| {
+        let is_assumed = has_bit(held.assumed, bit);
+        let is_ruled_out = has_bit(held.ruled, bit);
+        let is_listed = bit < program.abducibles.len();
+        is_assumed && is_ruled_out || (is_assumed || is_ruled_out) && !is_listed
+    })
+}
+
 /// What the general rule says, and the entries it adds.
 fn expected(
     search: &mut Search,
@@ -53,7 +69,9 @@ fn expected(
 ) -> (Continued, Vec<u32>) {
     let scenarios = scenario_count(search.program());
     let (listed, room) = list.split_at(record.found as usize);
-    let mut candidates = search.explanations();
+    let is_agreeing = |&scenario: &u32| agrees(record.held(), scenario);
+    let mut candidates = search.explanations(Held::NONE);
+    candidates.retain(is_agreeing);
     candidates.retain(|&scenario| {
         let mut listed = listed.iter();
         scenario >= record.position && !listed.any(|&entry| contains_assumptions(scenario, entry))
@@ -68,9 +86,11 @@ fn expected(
         record: Record {
             position,
             found: record.found + added.len() as u32,
+            ..record
         },
         tried,
         rounds: tried_scenarios
+            .filter(is_agreeing)
             .map(|scenario| search.judgement(scenario).rounds)
             .sum(),
         state: match (position == scenarios, tried < allowance) {
@@ -88,14 +108,30 @@ fn count(search: &mut Search, continued: &Continued, added: &[u32], reached: &mu
         State::Full => reached.full += 1,
         State::Going => reached.going += 1,
     }
-    let minimal = search.minimal_explanations();
+    let held = continued.record.held();
+    let minimal = search.minimal_explanations(held);
     reached.added += added.len();
+    if held != Held::NONE {
+        reached.added_holding += added.len();
+    }
     let is_minimal = |scenario: &&u32| minimal.contains(scenario);
     reached.not_minimal += added.len() - added.iter().filter(is_minimal).count();
     let end = continued.record.position;
     let tried = end - continued.tried..end;
     let is_left_out = |scenario: &&u32| tried.contains(scenario) && !added.contains(scenario);
     reached.left_out += minimal.iter().filter(is_left_out).count();
+}
+
+/// Masks that a fresh search accepts, or any without a bit above k.
+fn any_masks(random: &mut Random, program: &Program) -> Held {
+    if !random.one_in(6) {
+        return masks(random, program);
+    }
+    let above = 1 << (program.abducibles.len() + 1);
+    Held {
+        assumed: random.below(above) as u16,
+        ruled: random.below(above) as u16,
+    }
 }
 
 fn compare(random: &mut Random, search: &mut Search, reached: &mut Reached) {
@@ -108,19 +144,21 @@ fn compare(random: &mut Random, search: &mut Search, reached: &mut Reached) {
         list.sort_unstable();
         list.dedup();
     }
-    let record = Record {
-        position: number(random).max(number(random)),
-        found: found as u32,
-    };
+    let held = any_masks(random, search.program());
+    let position = number(random).max(number(random));
+    let record = at_holding(position, found as u32, held);
     let allowance = random.pick(&[0, 1, 2, 3, 5, 9, 20, u32::MAX]);
 
     let before = list.clone();
     let mut dual = vec![0; 60_000];
     let answer = search.continue_search(&mut dual, &mut list, record, allowance);
-    if is_spoilt(scenarios, &before, record) {
+    let has_spoilt_masks = has_spoilt_masks(search.program(), held);
+    let is_spoilt = is_spoilt(scenarios, &before, record);
+    if is_spoilt || has_spoilt_masks {
         assert_eq!(answer, Err(ContinueRefusal::SpoiltSearch));
         assert_eq!(list, before);
         reached.spoilt += 1;
+        reached.spoilt_by_masks += usize::from(!is_spoilt);
         return;
     }
     let (continued, added) = expected(search, &before, record, allowance);
@@ -146,14 +184,25 @@ fn any_record_goes_by_the_general_rule() {
     }
     let Reached {
         spoilt,
+        spoilt_by_masks,
+        ended,
+        full,
+        going,
+        added,
+        added_holding,
+        not_minimal,
+        left_out,
+    } = reached;
+    let counts = [
+        spoilt,
+        spoilt_by_masks,
         ended,
         full,
         going,
         added,
         not_minimal,
-        left_out,
-    } = reached;
-    let counts = [spoilt, ended, full, going, added, not_minimal];
+    ];
     assert!(counts.iter().all(|&count| count > PROGRAMS), "{reached:?}");
+    assert!(added_holding > PROGRAMS / 2, "{reached:?}");
     assert!(left_out > PROGRAMS / 10, "{reached:?}");
 }

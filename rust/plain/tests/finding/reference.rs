@@ -4,11 +4,12 @@
 use calls::lent::list_pattern;
 use calls::{Judging, Searching, JUDGINGS, SEARCHINGS};
 use plain::{
-    encode_dual, encode_file, encode_sheet, judge, minimal_explanations, read_file, JudgeRefusal,
-    Number, Paper, Record, Refusal, State,
+    encode_dual, encode_file, encode_sheet, judge, minimal_explanations, read_file, Held,
+    JudgeRefusal, Number, Paper, Refusal, State,
 };
 
 use crate::hand::bytes;
+use crate::holding::fresh;
 use crate::lent::{continued, judge_refused, judged};
 use crate::text::{loaded, program, query};
 
@@ -47,9 +48,10 @@ fn searching() {
     for call in SEARCHINGS {
         let Searching { program, query, .. } = call;
         let (program, query) = loaded(program, query);
-        assert_eq!(minimal_explanations(&program, &query), call.found);
+        let minimal = minimal_explanations(&program, &query, Held::NONE);
+        assert_eq!(minimal, call.found);
         let mut list = list_pattern(9);
-        let continued = continued(&program, &query, &mut list, Record::FRESH, u32::MAX);
+        let continued = continued(&program, &query, &mut list, fresh(&program), u32::MAX);
         assert_eq!(continued.tried, call.scenarios, "{call:?}");
         assert_eq!(continued.state, State::Ended, "{call:?}");
         let found = continued.record.found as usize;

@@ -4,20 +4,17 @@ use calls::continuing::{self, Continuing, DUAL_LENGTH, RESUMED};
 use calls::lent::list_pattern;
 use calls::searching::OF_NOT_P4;
 use plain::{
-    encode_file, encode_sheet, judge, ContinueRefusal, Continued, Number, Paper, Program, Query,
-    Record, Refusal, Search, State,
+    encode_file, encode_sheet, judge, ContinueRefusal, Continued, Held, Number, Paper, Program,
+    Query, Record, Refusal, Search, State,
 };
 
 use crate::hand::bytes;
+use crate::holding::{at, fresh};
 use crate::lent::{continue_refused, continued};
 use crate::text::{loaded, program, query};
 
 fn not_p4() -> (Program, Query) {
     loaded(&OF_NOT_P4.program, OF_NOT_P4.query)
-}
-
-fn at(position: u32, found: u32) -> Record {
-    Record { position, found }
 }
 
 /// The rounds of the scenarios, each judged by a call of its own, added up.
@@ -87,7 +84,7 @@ fn a_record_of_another_search_goes_by_its_list() {
 #[test]
 fn a_pause_forgets_no_entry() {
     let mut list = list_pattern(4);
-    let mut record = Record::FRESH;
+    let mut record = fresh(&not_p4().0);
     for position in 1..=9 {
         let found = if position < 2 {
             0
@@ -112,6 +109,7 @@ fn a_pause_forgets_no_entry() {
 #[test]
 fn without_abducibles_there_is_one_scenario() {
     let program = program("p", "", "p");
+    let fresh = fresh(&program);
     let go_on = |text, list: &mut [u32], record, allowance| {
         let query = query("p", text);
         let continued = continued(&program, &query, list, record, allowance);
@@ -126,16 +124,16 @@ fn without_abducibles_there_is_one_scenario() {
     };
     let mut list = list_pattern(1);
     let found = (1, State::Ended, at(1, 1));
-    assert_eq!(go_on("p", &mut list, Record::FRESH, 1), found);
+    assert_eq!(go_on("p", &mut list, fresh, 1), found);
     assert_eq!(list, [0]);
     let none = (1, State::Ended, at(1, 0));
-    assert_eq!(go_on("not p", &mut list, Record::FRESH, 9), none);
-    assert_eq!(go_on("not p", &mut [], Record::FRESH, 9), none);
+    assert_eq!(go_on("not p", &mut list, fresh, 9), none);
+    assert_eq!(go_on("not p", &mut [], fresh, 9), none);
     // With no room the only scenario is the stopping point.
     let full = (0, State::Full, at(0, 0));
-    assert_eq!(go_on("p", &mut [], Record::FRESH, 1), full);
+    assert_eq!(go_on("p", &mut [], fresh, 1), full);
     let going = (0, State::Going, at(0, 0));
-    assert_eq!(go_on("p", &mut [], Record::FRESH, 0), going);
+    assert_eq!(go_on("p", &mut [], fresh, 0), going);
     let ended = (0, State::Ended, at(1, 0));
     assert_eq!(go_on("p", &mut [], at(1, 0), 0), ended);
     assert_eq!(go_on("p", &mut [], at(1, 0), 1), ended);
@@ -179,7 +177,7 @@ fn the_papers_are_refused_first() {
     let unlisted = refusal(Number::Unlisted, Paper::Sheet, 0);
     assert_eq!(unlisted.number(), 6);
     let cut = refusal(Number::Cut, Paper::File, 0);
-    for (dual_length, record) in [(100, Record::FRESH), (100, at(10, 7)), (0, at(0, 0))] {
+    for (dual_length, record) in [(100, fresh(&program)), (100, at(10, 7)), (0, at(0, 0))] {
         let list = list_pattern(3);
         continue_refused(unlisted, (&file, &bad_sheet), dual_length, &list, record);
         continue_refused(cut, (&[], &bad_sheet), dual_length, &list, record);
@@ -191,8 +189,8 @@ fn the_papers_are_refused_first() {
 fn a_search_that_keeps_its_judgements_answers_the_same() {
     let (program, query) = not_p4();
     let mut search = Search::keeping(program.clone(), query.clone());
-    assert_eq!(search.explanations(), [1, 3, 4, 5, 7]);
-    assert_eq!(search.minimal_explanations(), [1, 3]);
+    assert_eq!(search.explanations(Held::NONE), [1, 3, 4, 5, 7]);
+    assert_eq!(search.minimal_explanations(Held::NONE), [1, 3]);
     let mut dual = vec![0; DUAL_LENGTH];
     for position in 0..=9 {
         for allowance in [0, 1, 2, 9] {

@@ -1,0 +1,57 @@
+//! Records and masks of searches with held faults and without.
+
+use plain::{encode_file, Held, Program, Record};
+use random::Random;
+
+/// A fresh search over the program that holds these faults.
+pub fn fresh_holding(program: &Program, held: Held) -> Record {
+    let record = plain::fresh(&encode_file(program), held.assumed, held.ruled);
+    record.expect("masks that are accepted")
+}
+
+/// A fresh search over the program that holds no fault.
+pub fn fresh(program: &Program) -> Record {
+    fresh_holding(program, Held::NONE)
+}
+
+/// The record of a search that holds these faults.
+pub fn at_holding(position: u32, found: u32, held: Held) -> Record {
+    Record {
+        position,
+        found,
+        assumed: held.assumed,
+        ruled: held.ruled,
+    }
+}
+
+/// The record of a search that holds no fault.
+pub fn at(position: u32, found: u32) -> Record {
+    at_holding(position, found, Held::NONE)
+}
+
+/// Whether the scenario's digit, found by division, is 1 at each fault held as
+/// assumed and 2 at each held as ruled out.
+pub fn agrees(held: Held, scenario: u32) -> bool {
+    let has_digit = |mask: u16, digit: u32| {
+        let mut bits = (0..16).filter(|&bit| mask & (1 << bit) != 0);
+        bits.all(|bit| scenario / 3_u32.pow(bit) % 3 == digit)
+    };
+    has_digit(held.assumed, 1) && has_digit(held.ruled, 2)
+}
+
+/// Random masks that a fresh search over the program accepts, every other time
+/// without a bit.
+pub fn masks(random: &mut Random, program: &Program) -> Held {
+    let mut held = Held::NONE;
+    if random.one_in(2) {
+        return held;
+    }
+    for abducible in 0..program.abducibles.len() {
+        match random.below(6) {
+            0 => held.assumed |= 1 << abducible,
+            1 => held.ruled |= 1 << abducible,
+            _ => {}
+        }
+    }
+    held
+}
