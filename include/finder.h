@@ -2,8 +2,8 @@
  * The fault finder's C boundary.
  *
  * Document 01 says what a file, a sheet, a dual, a refusal and its place, a
- * scenario, a model, a record and a list are. This header says only how they
- * cross the boundary.
+ * scenario, a model, a record and a list are, and Card 1 of document 02 what
+ * held faults are. This header says only how they cross the boundary.
  *
  * Common to all functions:
  *
@@ -103,10 +103,41 @@ void finder_judge(const uint8_t *file, size_t file_len,
                   uint64_t out[8]);
 
 /*
+ * Reads the file and begins a search that holds the faults of two masks. Bit i
+ * of a mask, from 0, the lowest, on, is for the i-th abducible: `assumed` has
+ * the faults held as assumed, `ruled` those held as ruled out. Where both are 0
+ * no fault is held.
+ *
+ *   slot  file refused     15 or 16            search begun
+ *   0     the refusal      15 the masks share  0
+ *         number, 1 to 10  a bit
+ *                          16 a bit at or
+ *                          above k is set
+ *   1     0, the file      0                   0
+ *   2     the place        0                   0
+ *   3     0                0                   the position, 0
+ *   4     0                0                   found, 0
+ *   5     0                0                   assumed, as given
+ *   6     0                0                   ruled, as given
+ *   7     0                0                   0
+ *
+ * The tests come in the order of their numbers, so masks that share a bit at or
+ * above k are refused by 15. Where slot 0 is 0, slots 3 to 6 are the record of
+ * the fresh search; its list may hold anything.
+ */
+void finder_fresh(const uint8_t *file, size_t file_len,
+                  uint16_t assumed, uint16_t ruled,
+                  uint64_t out[8]);
+
+/*
  * Reads both papers, the file first, and goes on with the search of the record
- * (position and found) and of the list for as many scenarios as the allowance
- * lets it try. Writes the dual of the file to the start of the dual buffer and
- * adds what it finds to the list.
+ * (position, found, assumed and ruled) and of the list for as many scenarios as
+ * the allowance lets it try. Writes the dual of the file to the start of the
+ * dual buffer and adds what it finds to the list.
+ *
+ * A scenario whose digit at a held fault is not the held one (1 assumed, 2
+ * ruled out; 0 is neither) counts as tried, with zero rounds, and is no
+ * explanation of that search.
  *
  *   slot  paper refused            11 or 14           search continued
  *   0     the refusal number,      11 short dual      0
@@ -121,18 +152,20 @@ void finder_judge(const uint8_t *file, size_t file_len,
  *   7     0                        0                  the state: 0 going,
  *                                                     1 full, 2 ended
  *
- * The tests come in the order of their numbers. The record of a fresh search
- * is position 0 and found 0, and its list may hold anything. Slots 3 and 4 are
- * the record for the next call, whether this one was refused or not. Where
- * slot 0 is 0, the bytes of the dual buffer beyond the dual are as they were,
- * and so is every entry of the list but those from the old found up to the new
- * one.
+ * The tests come in the order of their numbers. 14 also refuses a record whose
+ * masks finder_fresh would refuse by 15 or 16. The record of a fresh search is
+ * that of finder_fresh, and its list may hold anything. Slots 3 and 4, with the
+ * masks, which never change and so are not told, are the record for the next
+ * call, whether this one was refused or not. Where slot 0 is 0, the bytes of the
+ * dual buffer beyond the dual are as they were, and so is every entry of the
+ * list but those from the old found up to the new one.
  */
 void finder_continue(const uint8_t *file, size_t file_len,
                      const uint8_t *sheet, size_t sheet_len,
                      uint8_t *dual, size_t dual_len,
                      uint32_t *list, size_t list_len,
                      uint32_t position, uint32_t found,
+                     uint16_t assumed, uint16_t ruled,
                      uint32_t allowance,
                      uint64_t out[8]);
 

@@ -1,7 +1,7 @@
 /*
- * A whole search by include/finder.h: the papers of examples/two-sensors, in
- * memory, a few scenarios a call. Then a file and a sheet that are refused, and
- * a call that is.
+ * Whole searches by include/finder.h: the papers of examples/two-sensors, in
+ * memory, a few scenarios a call, without held faults and with one. Then a file
+ * and a sheet that are refused, and calls that are.
  *
  * It knows what must come out, and ends with status 1 where anything else does.
  * It is C99 and C++11 at once.
@@ -67,9 +67,13 @@ static const uint8_t wrong_sheet[] = {
     0x7F, NUMBER(0)
 };
 
-/* The smallest explanations of the call, rising. */
+/* The smallest explanations of the call, rising, and those without a muted alarm. */
 static const uint32_t expected[] = { 15, 29, 37, 39 };
-#define EXPECTED (sizeof expected / sizeof expected[0])
+static const uint32_t expected_unmuted[] = { 69 };
+#define LENGTH(array) (sizeof(array) / sizeof(array)[0])
+
+/* The bit of a fault in a mask. */
+#define BIT(fault) ((uint16_t)(1u << (fault)))
 
 static uint8_t dual[LONGEST_DUAL];
 static uint32_t list[ROOM];
@@ -102,21 +106,27 @@ static void print_refusal(const uint64_t out[8])
     printf("refused %u %s %u\n", (unsigned)out[0], out[1] == 0 ? "file" : "sheet", (unsigned)out[2]);
 }
 
-static void search(void)
+/* A search that holds the faults of the mask as ruled out. */
+static void search(uint16_t ruled, const uint32_t *entries, size_t count, uint64_t all_rounds)
 {
-    uint32_t position = 0, found = 0; /* a fresh search */
+    const uint16_t assumed = 0;
+    uint32_t position, found;
     uint64_t tried = 0, rounds = 0;
     uint64_t out[8];
 
+    finder_fresh(file, sizeof file, assumed, ruled, out);
+    check(out[0] == 0 && out[5] == assumed && out[6] == ruled, "the search is begun with these masks");
+    position = (uint32_t)out[3];
+    found = (uint32_t)out[4];
     do {
         uint32_t entry = found;
 
-        finder_continue(file, sizeof file, sheet, sizeof sheet, dual, sizeof dual, list, ROOM, position, found, ALLOWANCE, out);
+        finder_continue(file, sizeof file, sheet, sizeof sheet, dual, sizeof dual, list, ROOM, position, found, assumed, ruled, ALLOWANCE, out);
         if (out[0] != 0) {
             check(0, "the call is not refused");
             return;
         }
-        /* These two and the list are what the next call goes on from. */
+        /* These two, the masks and the list are what the next call goes on from. */
         position = (uint32_t)out[3];
         found = (uint32_t)out[4];
         tried += out[5];
@@ -129,8 +139,8 @@ static void search(void)
     printf("%s", out[7] == ENDED ? "ended" : out[7] == FULL ? "full" : "going");
     printf(" tried %u rounds %u\n", (unsigned)tried, (unsigned)rounds);
     check(out[7] == ENDED, "the search has ended");
-    check(found == EXPECTED && memcmp(list, expected, sizeof expected) == 0, "the entries are those expected");
-    check(tried == 81 && rounds == 180, "81 scenarios are tried in 180 rounds");
+    check(found == count && memcmp(list, entries, count * sizeof *entries) == 0, "the entries are those expected");
+    check(tried == 81 && rounds == all_rounds, "81 scenarios are tried in so many rounds");
 }
 
 static void refusals(void)
@@ -151,23 +161,29 @@ static void refusals(void)
     finder_rest(file, sizeof file, sheet, sizeof sheet, out);
     check(out[0] == 0 && out[1] == 0 && out[2] == 0 && out[3] == 0, "both papers are accepted");
 
+    /* 15: a fault is not held both ways. Masks are the fault of no paper. */
+    finder_fresh(file, sizeof file, BIT(ALARM_MUTED), BIT(ALARM_MUTED), out);
+    printf("refused %u\n", (unsigned)out[0]);
+    check(out[0] == 15 && out[1] == 0 && out[2] == 0, "the masks share a bit");
+
     /* Continuing refuses the same file, and gives the record back as it was. */
-    finder_continue(file, sizeof file - 1, sheet, sizeof sheet, dual, sizeof dual, list, ROOM, 40, 4, ALLOWANCE, out);
+    finder_continue(file, sizeof file - 1, sheet, sizeof sheet, dual, sizeof dual, list, ROOM, 81, 1, 0, BIT(ALARM_MUTED), ALLOWANCE, out);
     print_refusal(out);
     check(out[0] == 1 && out[1] == 0 && out[2] == end, "continuing tells the same of the file");
-    check(out[3] == 40 && out[4] == 4 && out[5] == 0, "the record is as it was");
+    check(out[3] == 81 && out[4] == 1 && out[5] == 0, "the record is as it was");
 
     /* 11 short dual names no paper. */
-    finder_continue(file, sizeof file, sheet, sizeof sheet, dual, 1, list, ROOM, 40, 4, ALLOWANCE, out);
+    finder_continue(file, sizeof file, sheet, sizeof sheet, dual, 1, list, ROOM, 81, 1, 0, BIT(ALARM_MUTED), ALLOWANCE, out);
     printf("refused %u\n", (unsigned)out[0]);
     check(out[0] == 11 && out[1] == 0 && out[2] == 0, "a dual buffer of one byte is short");
-    check(out[3] == 40 && out[4] == 4 && out[5] == 0, "the record is as it was");
-    check(memcmp(list, expected, sizeof expected) == 0, "the list is as it was");
+    check(out[3] == 81 && out[4] == 1 && out[5] == 0, "the record is as it was");
+    check(list[0] == expected_unmuted[0], "the list is as it was");
 }
 
 int main(void)
 {
-    search();
+    search(0, expected, LENGTH(expected), 180);
+    search(BIT(ALARM_MUTED), expected_unmuted, LENGTH(expected_unmuted), 60);
     refusals();
     return failures == 0 ? 0 : 1;
 }

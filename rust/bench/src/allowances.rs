@@ -1,13 +1,13 @@
 //! What a call costs beside what it tries.
 
-use finder::Record;
 use plain::desk::ALLOWANCE;
+use plain::Held;
 
 use crate::columns::{cells, heads};
 use crate::files::Papers;
 use crate::finders::{Buffers, Finder, Finders};
 use crate::measuring::{times, work};
-use crate::searching::record_of;
+use crate::searching::{fresh, record_after};
 use crate::timing::{microseconds, Work};
 
 const ALLOWANCES: [u32; 4] = [0, 1, 64, ALLOWANCE];
@@ -58,14 +58,15 @@ fn writing<'p>(finder: &'p dyn Finder, papers: &'p Papers) -> Work<'p> {
 /// the one before has not so many scenarios left.
 fn continuing<'p>(finder: &'p dyn Finder, papers: &'p Papers, allowance: u32) -> Work<'p> {
     let mut buffers = Buffers::new();
-    let mut record = Record::FRESH;
+    let start = fresh(finder, papers, Held::NONE);
+    let mut record = start;
     work(finder, move || {
         let words = finder.continue_search(papers, record, allowance, &mut buffers);
-        let next = record_of(&words);
+        let next = record_after(record, &words);
         let tried = next.position - record.position;
         assert_eq!(tried, allowance, "all that is allowed is tried");
         record = if papers.scenarios - next.position < allowance {
-            Record::FRESH
+            start
         } else {
             next
         };

@@ -8,7 +8,7 @@ use finder::Record;
 use plain::desk::LIST_LENGTH;
 use plain::dual::LONGEST_DUAL;
 use plain::model::LONGEST_MODEL;
-use plain::{read_papers, rest_of_paper};
+use plain::{read_papers, rest_of_paper, Held};
 
 use crate::files::Papers;
 use crate::other::Other;
@@ -40,6 +40,8 @@ pub trait Finder: Sync {
     fn write_dual(&self, papers: &Papers, buffers: &mut Buffers) -> Words;
 
     fn judge(&self, papers: &Papers, scenario: u32, buffers: &mut Buffers) -> Words;
+
+    fn fresh(&self, papers: &Papers, held: Held) -> Words;
 
     fn continue_search(
         &self,
@@ -83,6 +85,12 @@ impl Finder for Linked {
         out
     }
 
+    fn fresh(&self, papers: &Papers, held: Held) -> Words {
+        let mut out = Words::default();
+        finder::fresh_words(&papers.file, held.assumed, held.ruled, &mut out);
+        out
+    }
+
     fn continue_search(
         &self,
         papers: &Papers,
@@ -121,6 +129,10 @@ impl Finder for Plain {
         words::of_judging(&plain::judge(file, sheet, scenario, dual, model))
     }
 
+    fn fresh(&self, papers: &Papers, held: Held) -> Words {
+        words::of_fresh(&plain::fresh(&papers.file, held.assumed, held.ruled))
+    }
+
     fn continue_search(
         &self,
         papers: &Papers,
@@ -130,8 +142,18 @@ impl Finder for Plain {
     ) -> Words {
         let Papers { file, sheet, .. } = papers;
         let Buffers { dual, list, .. } = buffers;
-        let Record { position, found } = record;
-        let given = plain::Record { position, found };
+        let Record {
+            position,
+            found,
+            assumed,
+            ruled,
+        } = record;
+        let given = plain::Record {
+            position,
+            found,
+            assumed,
+            ruled,
+        };
         let answer = plain::continue_search(file, sheet, dual, list, given, allowance);
         words::of_continuing(&answer, given)
     }
@@ -170,9 +192,15 @@ mod tests {
     #[test]
     fn all_finders_give_the_same_to_each_call() {
         let papers = SMALL.papers();
+        let held = Held {
+            assumed: 0b1000,
+            ruled: 0b100,
+        };
         let record = Record {
             position: 100,
             found: 0,
+            assumed: held.assumed,
+            ruled: held.ruled,
         };
         let agreed = Agreed::new();
         for finder in (Finders { other: None }).all() {
@@ -181,12 +209,13 @@ mod tests {
                 finder.rest(&papers),
                 finder.write_dual(&papers, &mut buffers),
                 finder.judge(&papers, 700, &mut buffers),
+                finder.fresh(&papers, held),
                 finder.continue_search(&papers, record, 300, &mut buffers),
             ];
             agreed.expect(&(words, buffers), finder);
         }
         let (words, _) = agreed.answer();
         assert!(words.iter().all(|words| words[0] == 0), "{words:?}");
-        assert_eq!(words[3][3], 400, "the position behind those tried");
+        assert_eq!(words[4][3], 400, "the position behind those tried");
     }
 }

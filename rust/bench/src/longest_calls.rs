@@ -1,6 +1,8 @@
 //! How long a caller of the desk program's allowance waits for one call, at the
 //! longest and in the mean, over a whole search.
 
+use plain::Held;
+
 use crate::columns::{cells, heads};
 use crate::files::Papers;
 use crate::finders::{Finder, Finders};
@@ -45,7 +47,7 @@ fn calls_in_turn(finders: &[&dyn Finder], papers: &Papers) -> Vec<Vec<f64>> {
 
 /// The seconds of each call of a whole search.
 fn calls(finder: &dyn Finder, papers: &Papers) -> Vec<f64> {
-    let mut search = Search::fresh(finder, papers);
+    let mut search = Search::fresh(finder, papers, Held::NONE);
     let mut calls = Vec::new();
     while search.is_going() {
         let started = processor_seconds();

@@ -12,6 +12,7 @@ use std::path::Path;
 
 use compare::words::Words;
 use finder::Record;
+use plain::Held;
 
 use crate::files::Papers;
 use crate::finders::{Buffers, Finder};
@@ -32,6 +33,7 @@ type Judge = unsafe extern "C" fn(
     usize,
     *mut u64,
 );
+type Fresh = unsafe extern "C" fn(*const u8, usize, u16, u16, *mut u64);
 type Continue = unsafe extern "C" fn(
     *const u8,
     usize,
@@ -43,6 +45,8 @@ type Continue = unsafe extern "C" fn(
     usize,
     u32,
     u32,
+    u16,
+    u16,
     u32,
     *mut u64,
 );
@@ -59,6 +63,7 @@ pub struct Other {
     rest: Rest,
     write_dual: WriteDual,
     judge: Judge,
+    fresh: Fresh,
     continue_search: Continue,
 }
 
@@ -81,6 +86,7 @@ impl Other {
                 rest: function(object, c"finder_rest").map_err(told)?,
                 write_dual: function(object, c"finder_write_dual").map_err(told)?,
                 judge: function(object, c"finder_judge").map_err(told)?,
+                fresh: function(object, c"finder_fresh").map_err(told)?,
                 continue_search: function(object, c"finder_continue").map_err(told)?,
             })
         }
@@ -164,6 +170,22 @@ impl Finder for Other {
         out
     }
 
+    fn fresh(&self, papers: &Papers, held: Held) -> Words {
+        let file = &papers.file;
+        let mut out = Words::default();
+        // SAFETY: see above.
+        unsafe {
+            (self.fresh)(
+                file.as_ptr(),
+                file.len(),
+                held.assumed,
+                held.ruled,
+                out.as_mut_ptr(),
+            );
+        }
+        out
+    }
+
     fn continue_search(
         &self,
         papers: &Papers,
@@ -187,6 +209,8 @@ impl Finder for Other {
                 list.len(),
                 record.position,
                 record.found,
+                record.assumed,
+                record.ruled,
                 allowance,
                 out.as_mut_ptr(),
             );
@@ -201,6 +225,7 @@ mod tests {
     use crate::files::seeded::SMALL;
     use crate::finders::Finders;
     use crate::measuring::Agreed;
+    use crate::searching::fresh;
     use std::process::{id, Command};
     use std::{env, fs};
 
@@ -232,11 +257,12 @@ mod tests {
         let agreed = Agreed::new();
         for finder in finders.libraries() {
             let mut buffers = Buffers::new();
+            let start = fresh(finder, &papers, Held::NONE);
             let words = [
                 finder.rest(&papers),
                 finder.write_dual(&papers, &mut buffers),
                 finder.judge(&papers, 5, &mut buffers),
-                finder.continue_search(&papers, Record::FRESH, 9, &mut buffers),
+                finder.continue_search(&papers, start, 9, &mut buffers),
             ];
             agreed.expect(&(words, buffers), finder);
         }

@@ -3,6 +3,7 @@
 
 use finder::Record;
 use plain::desk::ALLOWANCE;
+use plain::Held;
 
 use crate::files::Papers;
 use crate::finders::{Buffers, Finder};
@@ -32,12 +33,12 @@ pub struct Search<'s> {
 }
 
 impl<'s> Search<'s> {
-    pub fn fresh(finder: &'s dyn Finder, papers: &'s Papers) -> Self {
+    pub fn fresh(finder: &'s dyn Finder, papers: &'s Papers, held: Held) -> Self {
         Search {
             finder,
             papers,
             buffers: Buffers::new(),
-            record: Record::FRESH,
+            record: fresh(finder, papers, held),
             tried: 0,
             rounds: 0,
             state: GOING,
@@ -54,7 +55,7 @@ impl<'s> Search<'s> {
         let words = self
             .finder
             .continue_search(papers, record, ALLOWANCE, &mut self.buffers);
-        self.record = record_of(&words);
+        self.record = record_after(record, &words);
         let [.., tried, rounds, state] = words;
         self.tried += tried;
         self.rounds += rounds;
@@ -72,8 +73,13 @@ impl<'s> Search<'s> {
     }
 }
 
+/// A search that holds no fault.
 pub fn whole(finder: &dyn Finder, papers: &Papers) -> Outcome {
-    let mut search = Search::fresh(finder, papers);
+    whole_holding(finder, papers, Held::NONE)
+}
+
+pub fn whole_holding(finder: &dyn Finder, papers: &Papers, held: Held) -> Outcome {
+    let mut search = Search::fresh(finder, papers, held);
     while search.is_going() {
         search.call();
     }
@@ -91,14 +97,30 @@ pub fn whole_by_native(papers: &Papers) -> Outcome {
     }
 }
 
-/// The record in the words of a call that was not refused.
-pub fn record_of(words: &[u64; 8]) -> Record {
+/// The record of a fresh search.
+pub fn fresh(finder: &dyn Finder, papers: &Papers, held: Held) -> Record {
+    let Held { assumed, ruled } = held;
+    let words = finder.fresh(papers, held);
+    let begun = [0, 0, 0, 0, 0, assumed.into(), ruled.into(), 0];
+    assert_eq!(words, begun, "{} begins a search", finder.name());
+    Record {
+        position: 0,
+        found: 0,
+        assumed,
+        ruled,
+    }
+}
+
+/// The record after a call that went on from `before` and was not refused, with
+/// these words.
+pub fn record_after(before: Record, words: &[u64; 8]) -> Record {
     let [number, _, _, position, found, ..] = *words;
     assert_eq!(number, 0, "the call is accepted");
     let word = |slot| u32::try_from(slot).expect("a word of 32 bits");
     Record {
         position: word(position),
         found: word(found),
+        ..before
     }
 }
 

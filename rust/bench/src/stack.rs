@@ -5,10 +5,11 @@ use std::ffi::{c_int, c_ulong, c_void};
 use std::ptr::null_mut;
 
 use compare::words::Words;
-use finder::Record;
+use plain::Held;
 
 use crate::files::Papers;
 use crate::finders::{Buffers, Finders};
+use crate::searching::fresh;
 
 /// What a call may take.
 const BOUND: usize = 256 << 10;
@@ -31,8 +32,9 @@ pub fn print(finders: &Finders, papers: &Papers) {
             let last = papers.scenarios - 1;
             words[0] = finder.judge(papers, last, &mut buffers);
         });
+        let start = fresh(finder, papers, Held::NONE);
         let searching = used_by(|| {
-            words[1] = finder.continue_search(papers, Record::FRESH, u32::MAX, &mut buffers);
+            words[1] = finder.continue_search(papers, start, u32::MAX, &mut buffers);
         });
         let are_accepted = words.iter().all(|words| words[0] == 0);
         assert!(are_accepted, "the calls are accepted");

@@ -288,7 +288,13 @@ mod tests {
     use super::*;
 
     fn ways(list: &[u32], position: u32, found: u32) -> [bool; 4] {
-        let spoilt = Spoilt::new(9, list, Record { position, found });
+        let record = Record {
+            position,
+            found,
+            assumed: 0,
+            ruled: 0,
+        };
+        let spoilt = Spoilt::new(9, list, record);
         [
             spoilt.position_above,
             spoilt.found_above,

@@ -2,7 +2,8 @@
 //! records that were not reached from a fresh search.
 
 use plain::{
-    dual, encode_dual, encode_file, encode_sheet, scenario_count, Program, Query, Record, Search,
+    dual, encode_dual, encode_file, encode_sheet, scenario_count, Held, Program, Query, Record,
+    Search,
 };
 use random::Random;
 
@@ -57,7 +58,7 @@ impl Papers {
             3 => self.scenarios as usize + random.below(2),
             4 => random.pick(&[63, 64, 65, 1_024, 5_000]),
             _ if self.scenarios <= 243 => {
-                let minimal = self.search.minimal_explanations().len();
+                let minimal = self.search.minimal_explanations(Held::NONE).len();
                 (minimal + random.below(3)).saturating_sub(1)
             }
             _ => random.below(5),
@@ -177,6 +178,8 @@ impl AnyRecord {
             record: Record {
                 position,
                 found: entries.len() as u32,
+                assumed: 0,
+                ruled: 0,
             },
             list_length: entries.len() + random.pick(&[0, 0, 1, 2, 3, 10]),
             entries,

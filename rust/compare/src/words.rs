@@ -2,8 +2,8 @@
 //! separate finder.
 
 use plain::{
-    ContinueRefusal, Continued, JudgeRefusal, Judgement, Paper, Program, Query, Record, Refusal,
-    State, WriteRefusal,
+    ContinueRefusal, Continued, FreshRefusal, JudgeRefusal, Judgement, Paper, Program, Query,
+    Record, Refusal, State, WriteRefusal,
 };
 
 pub type Words = [u64; 8];
@@ -44,11 +44,31 @@ pub fn of_judging(answer: &Result<Judgement, JudgeRefusal>) -> Words {
     }
 }
 
+pub fn of_fresh(answer: &Result<Record, FreshRefusal>) -> Words {
+    match answer {
+        Ok(record) => {
+            let (position, found) = (record.position.into(), record.found.into());
+            let (assumed, ruled) = (record.assumed.into(), record.ruled.into());
+            [0, 0, 0, position, found, assumed, ruled, 0]
+        }
+        Err(refusal) => {
+            let of_file = match refusal {
+                FreshRefusal::File(of_file) => Some(of_file),
+                _ => None,
+            };
+            let [number, paper, place] = first_slots(refusal.number(), of_file);
+            [number, paper, place, 0, 0, 0, 0, 0]
+        }
+    }
+}
+
 /// The words where the search went on from the given record.
 pub fn of_continuing(answer: &Result<Continued, ContinueRefusal>, given: Record) -> Words {
     match answer {
         Ok(continued) => {
-            let Record { position, found } = continued.record;
+            let Record {
+                position, found, ..
+            } = continued.record;
             let state = match continued.state {
                 State::Going => 0,
                 State::Full => 1,
@@ -63,7 +83,9 @@ pub fn of_continuing(answer: &Result<Continued, ContinueRefusal>, given: Record)
                 _ => None,
             };
             let [number, paper, place] = first_slots(refusal.number(), of_paper);
-            let Record { position, found } = given;
+            let Record {
+                position, found, ..
+            } = given;
             [number, paper, place, position.into(), found.into(), 0, 0, 0]
         }
     }
@@ -94,12 +116,22 @@ mod tests {
         }
     }
 
+    /// A record whose masks no answer of continuing tells.
+    fn record(position: u32, found: u32) -> Record {
+        Record {
+            position,
+            found,
+            assumed: 0b01,
+            ruled: 0b10,
+        }
+    }
+
     #[test]
     fn a_refused_paper_is_told_with_its_place() {
         let of_file = refusal(Number::Tail, Paper::File, 24);
         let of_sheet = refusal(Number::Unlisted, Paper::Sheet, 5);
         let first_slots = |words: Words| [words[0], words[1], words[2]];
-        let given = Record::FRESH;
+        let given = record(0, 0);
         for (refusal, expected) in [(of_file, [10, 0, 24]), (of_sheet, [6, 1, 5])] {
             let judging = of_judging(&Err(JudgeRefusal::Papers(refusal)));
             let continuing = of_continuing(&Err(ContinueRefusal::Papers(refusal)), given);
@@ -109,18 +141,24 @@ mod tests {
         }
         let writing = of_writing(&Err(WriteRefusal::File(of_file)));
         assert_eq!(writing, [10, 0, 24, 0, 0, 0, 0, 0]);
+        let fresh = of_fresh(&Err(FreshRefusal::File(of_file)));
+        assert_eq!(fresh, [10, 0, 24, 0, 0, 0, 0, 0]);
         let reading = of_reading(&Err(of_sheet), &[1, 2, 3]);
         assert_eq!(reading, [6, 1, 5, 3, 0, 0, 0, 0]);
     }
 
     #[test]
     fn a_refused_call_keeps_its_record() {
-        let given = Record {
-            position: 9,
-            found: 2,
-        };
-        let spoilt = of_continuing(&Err(ContinueRefusal::SpoiltSearch), given);
+        let spoilt = of_continuing(&Err(ContinueRefusal::SpoiltSearch), record(9, 2));
         assert_eq!(spoilt, [14, 0, 0, 9, 2, 0, 0, 0]);
+    }
+
+    #[test]
+    fn refused_masks_have_their_number_alone() {
+        let shared = of_fresh(&Err(FreshRefusal::SharedBit));
+        let unlisted = of_fresh(&Err(FreshRefusal::UnlistedBit));
+        assert_eq!(shared, [15, 0, 0, 0, 0, 0, 0, 0]);
+        assert_eq!(unlisted, [16, 0, 0, 0, 0, 0, 0, 0]);
     }
 
     #[test]
@@ -131,17 +169,15 @@ mod tests {
         };
         assert_eq!(of_judging(&Ok(judgement)), [0, 0, 0, 1, 3, 0, 0, 0]);
         assert_eq!(of_writing(&Ok(60)), [0, 0, 0, 60, 0, 0, 0, 0]);
+        assert_eq!(of_fresh(&Ok(record(0, 0))), [0, 0, 0, 0, 0, 1, 2, 0]);
         let continued = |state| Continued {
-            record: Record {
-                position: 7,
-                found: 1,
-            },
+            record: record(7, 1),
             tried: 4,
             rounds: 11,
             state,
         };
         for (state, word) in [(State::Going, 0), (State::Full, 1), (State::Ended, 2)] {
-            let words = of_continuing(&Ok(continued(state)), Record::FRESH);
+            let words = of_continuing(&Ok(continued(state)), record(3, 0));
             assert_eq!(words, [0, 0, 0, 7, 1, 4, 11, word]);
         }
     }

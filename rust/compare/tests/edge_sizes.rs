@@ -1,6 +1,8 @@
 //! Compares the two finders on programs as large as a file can hold, in the
 //! worst orders for passes over their rules, and prints how long they take.
 
+mod crossing;
+
 use std::time::{Duration, Instant};
 
 use compare::comparison::Comparison;
@@ -14,6 +16,8 @@ use plain::{
     Query, Record,
 };
 use random::Random;
+
+use crossing::crossing;
 
 const LIST_LENGTH: usize = 3;
 
@@ -183,12 +187,17 @@ fn search_case(comparison: &mut Comparison, case: &Case) {
         allowance,
         ..
     } = *case;
-    let record = Record { position, found: 0 };
+    let record = Record {
+        position,
+        found: 0,
+        assumed: 0,
+        ruled: 0,
+    };
     let (dual, list) = (expected_dual.part(), expected_list.part());
     let (answer, plain_time) =
         timed(|| continue_search(&file, &sheet, dual, list, record, allowance));
     let (dual, list) = (found_dual.part(), found_list.part());
-    let given = finder::Record { position, found: 0 };
+    let given = crossing(record);
     let ((), finder_time) =
         timed(|| finder::continue_words(&file, &sheet, dual, list, given, allowance, &mut found));
     comparison.expect_words(&found, &words::of_continuing(&answer, record), &name);

@@ -4,11 +4,11 @@
 
 use assemble::parse;
 use compare::examples::{examples, Example};
-use finder::{continue_search, judge, Record, State};
+use finder::{continue_search, fresh, judge, State};
 use plain::desk::LIST_LENGTH;
 use plain::dual::LONGEST_DUAL;
 use plain::model::LONGEST_MODEL;
-use plain::{minimal_explanations, minimal_of, read_papers, scenario_count};
+use plain::{minimal_explanations, minimal_of, read_papers, scenario_count, Held, Program};
 
 const ALLOWANCES: [u32; 8] = [1, 2, 3, 7, 63, 64, 65, u32::MAX];
 
@@ -38,7 +38,7 @@ fn search(example: &Example, allowances: impl Iterator<Item = u32>) {
     let Example { causes, sheet, .. } = example;
     let mut dual = vec![0; LONGEST_DUAL];
     let mut list = vec![u32::MAX; LIST_LENGTH];
-    let mut record = Record::FRESH;
+    let mut record = fresh(causes, 0, 0).expect("an accepted file");
     let (mut tried, mut rounds) = (0, 0);
     for allowance in allowances {
         let answer = continue_search(causes, sheet, &mut dual, &mut list, record, allowance);
@@ -122,7 +122,8 @@ fn without_its_integrity_rule_both_of_two_sensors_are_right() {
     let example = of_name.next().expect("an example of that name");
     let papers = read_papers(&example.causes, &example.sheet);
     let (mut program, query) = papers.expect("accepted papers");
-    assert_eq!(minimal_explanations(&program, &query), [15, 29, 37, 39]);
+    let minimal = |program: &Program| minimal_explanations(program, &query, Held::NONE);
+    assert_eq!(minimal(&program), [15, 29, 37, 39]);
     program.integrity_bodies.clear();
-    assert_eq!(minimal_explanations(&program, &query), [8, 15, 29, 36]);
+    assert_eq!(minimal(&program), [8, 15, 29, 36]);
 }

@@ -1,6 +1,8 @@
 //! Compares the two finders in continuing searches over random files: fresh ones
 //! in random calls, and records that were not reached from a fresh search.
 
+mod crossing;
+
 use compare::comparison::{Comparison, Told};
 use compare::lent::Lent;
 use compare::rounds::{limit_round, small_round, Examiner};
@@ -8,10 +10,12 @@ use compare::search_coverage::{Call, SearchCoverage, ShortDual, Spoilt};
 use compare::searches::{AnyRecord, Pace, Papers, Terms};
 use compare::words;
 use plain::{
-    continue_search, encode_file, encode_sheet, read_papers, ContinueRefusal, Continued, Program,
-    Query, Record, State,
+    continue_search, encode_file, encode_sheet, fresh, read_papers, ContinueRefusal, Continued,
+    Program, Query, Record, State,
 };
 use random::Random;
+
+use crossing::crossing;
 
 /// Files with a fresh search in many calls.
 const FILES: u64 = 20_000;
@@ -68,7 +72,7 @@ fn fresh_search(random: &mut Random, papers: &mut Papers, searches: &mut Searche
     let length = papers.a_list_length(random);
     let patterns = &mut searches.comparison.patterns;
     let mut list = patterns.list(length, papers.scenarios);
-    let mut record = Record::FRESH;
+    let mut record = fresh(&papers.file, 0, 0).expect("an accepted file");
     let pace = random.pick(&Pace::ALL);
     let mut stops = 0;
     for calls in 0.. {
@@ -129,6 +133,8 @@ impl Examiner for Searches {
                 let record = Record {
                     position: papers.a_position(&mut random),
                     found: 0,
+                    assumed: 0,
+                    ruled: 0,
                 };
                 let terms = Terms {
                     allowance: random.below(4) as u32,
@@ -189,6 +195,8 @@ impl Searches {
         let record = Record {
             position: random.pick(&[0, 1, 9, u32::MAX]),
             found: random.pick(&[0, 0, 1, 4, u32::MAX]),
+            assumed: 0,
+            ruled: 0,
         };
         let terms = Terms {
             allowance: random.pick(&[0, 1, 64, u32::MAX]),
@@ -221,10 +229,7 @@ impl Searches {
         let mut found = comparison.patterns.words();
 
         let answer = plain(expected_dual.part(), list.part());
-        let given = finder::Record {
-            position: record.position,
-            found: record.found,
-        };
+        let given = crossing(record);
         let (dual, entries) = (found_dual.part(), found_list.part());
         finder::continue_words(file, sheet, dual, entries, given, allowance, &mut found);
 

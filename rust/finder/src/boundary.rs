@@ -33,6 +33,8 @@ extern "C" {
         out: *mut u64,
     );
 
+    pub fn finder_fresh(file: *const u8, file_len: usize, assumed: u16, ruled: u16, out: *mut u64);
+
     pub fn finder_continue(
         file: *const u8,
         file_len: usize,
@@ -44,6 +46,8 @@ extern "C" {
         list_len: usize,
         position: u32,
         found: u32,
+        assumed: u16,
+        ruled: u16,
         allowance: u32,
         out: *mut u64,
     );

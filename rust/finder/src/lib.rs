@@ -1,10 +1,11 @@
 //! The fault finder behind its C boundary, made safe to call.
 //!
-//! Document 01 says what the calls mean, include/finder.h how they cross the
-//! boundary. Each call of the header has its module here.
+//! Documents 01 and 02 say what the calls mean, include/finder.h how they cross
+//! the boundary. Each call of the header has its module here.
 
 mod boundary;
 pub mod dual;
+pub mod fresh;
 pub mod judge;
 pub mod refusal;
 pub mod rest;
@@ -12,6 +13,7 @@ pub mod search;
 
 pub use boundary::SLOTS;
 pub use dual::{write_dual, write_dual_words, WriteRefusal};
+pub use fresh::{fresh, fresh_words, FreshRefusal};
 pub use judge::{judge, judge_words, JudgeRefusal, Judgement};
 pub use refusal::{Paper, Refusal};
 pub use rest::{rest, rest_words, Answer};

@@ -3,18 +3,16 @@
 use crate::boundary::{self, SLOTS};
 use crate::refusal::Refusal;
 
-/// How far a search has come.
+/// How far a search has come, and the faults that it holds. That of a fresh
+/// search is made by [`fresh`](crate::fresh::fresh).
 #[derive(Clone, Copy, Debug, PartialEq, Eq)]
 pub struct Record {
     pub position: u32,
     pub found: u32,
-}
-
-impl Record {
-    pub const FRESH: Record = Record {
-        position: 0,
-        found: 0,
-    };
+    /// The mask of the faults held as assumed, bit i for the i-th abducible.
+    pub assumed: u16,
+    /// The mask of those held as ruled out.
+    pub ruled: u16,
 }
 
 /// What became of a call.
@@ -28,10 +26,11 @@ pub enum State {
 /// The answer of continuing.
 #[derive(Clone, Copy, Debug, PartialEq, Eq)]
 pub struct Continued {
-    /// The new record.
+    /// The new record. Its masks are the old ones.
     pub record: Record,
     pub tried: u32,
-    /// The round counts of the scenarios tried added up.
+    /// The round counts of the scenarios tried added up, zero for one whose
+    /// digit at a held fault is not the held one.
     pub rounds: u64,
     pub state: State,
 }
@@ -43,8 +42,9 @@ pub enum ContinueRefusal {
     Papers(Refusal),
     /// 11: the lent dual buffer is shorter than the dual.
     ShortDual,
-    /// 14: position above 3^k, found above list length, or the first found
-    /// entries not strictly rising or not all below position.
+    /// 14: position above 3^k, found above list length, the first found entries
+    /// not strictly rising or not all below position, or masks that a fresh
+    /// search would refuse.
     SpoiltSearch,
 }
 
@@ -68,8 +68,10 @@ pub fn continue_search(
     if words[0] != 0 {
         return Err(refusal(file, sheet, record, &words));
     }
-    let continued = answer(&words);
-    let Record { position, found } = continued.record;
+    let continued = answer(record, &words);
+    let Record {
+        position, found, ..
+    } = continued.record;
     let room = record.found as usize..=list.len();
     assert_eq!(record.position.checked_add(continued.tried), Some(position));
     assert!(room.contains(&(found as usize)), "found entries are listed");
@@ -107,13 +109,15 @@ pub fn continue_words(
             list.len(),
             record.position,
             record.found,
+            record.assumed,
+            record.ruled,
             allowance,
             out.as_mut_ptr(),
         );
     }
 }
 
-fn answer(words: &[u64; SLOTS]) -> Continued {
+fn answer(given: Record, words: &[u64; SLOTS]) -> Continued {
     let [_, paper, place, position, found, tried, rounds, state] = *words;
     let word = |slot| u32::try_from(slot).expect("a word of 32 bits");
     assert_eq!((paper, place), (0, 0), "both papers are accepted");
@@ -121,6 +125,7 @@ fn answer(words: &[u64; SLOTS]) -> Continued {
         record: Record {
             position: word(position),
             found: word(found),
+            ..given
         },
         tried: word(tried),
         rounds,

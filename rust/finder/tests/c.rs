@@ -7,6 +7,8 @@ use std::fs;
 use std::path::{Path, PathBuf};
 use std::process::{Command, Output};
 
+use Wrong::{Continue, Fresh, Nowhere, Rest};
+
 /// A language as a compiler has it: the compiler, the language's name, a standard.
 type Language = (&'static str, &'static str, &'static str);
 
@@ -108,8 +110,8 @@ fn the_commands_of_the_readme_are_those_that_are_run() {
     }
 }
 
-/// Lets the finder answer and then spoils the answer, in `WRONG_REST` or in
-/// `WRONG_CONTINUE`.
+/// Lets the finder answer and then spoils the answer, in `WRONG_REST`, in
+/// `WRONG_FRESH` or in `WRONG_CONTINUE`.
 const WRONG: &str = r#"
 #include "finder.h"
 
@@ -120,31 +122,61 @@ void __wrap_finder_rest(const uint8_t *file, size_t file_len, const uint8_t *she
     WRONG_REST;
 }
 
-void __real_finder_continue(const uint8_t *file, size_t file_len, const uint8_t *sheet, size_t sheet_len, uint8_t *dual, size_t dual_len,
-                            uint32_t *list, size_t list_len, uint32_t position, uint32_t found, uint32_t allowance, uint64_t out[8]);
-void __wrap_finder_continue(const uint8_t *file, size_t file_len, const uint8_t *sheet, size_t sheet_len, uint8_t *dual, size_t dual_len,
-                            uint32_t *list, size_t list_len, uint32_t position, uint32_t found, uint32_t allowance, uint64_t out[8])
+void __real_finder_fresh(const uint8_t *file, size_t file_len, uint16_t assumed, uint16_t ruled, uint64_t out[8]);
+void __wrap_finder_fresh(const uint8_t *file, size_t file_len, uint16_t assumed, uint16_t ruled, uint64_t out[8])
 {
-    __real_finder_continue(file, file_len, sheet, sheet_len, dual, dual_len, list, list_len, position, found, allowance, out);
+    __real_finder_fresh(file, file_len, assumed, ruled, out);
+    WRONG_FRESH;
+}
+
+void __real_finder_continue(const uint8_t *file, size_t file_len, const uint8_t *sheet, size_t sheet_len, uint8_t *dual, size_t dual_len,
+                            uint32_t *list, size_t list_len, uint32_t position, uint32_t found, uint16_t assumed, uint16_t ruled, uint32_t allowance,
+                            uint64_t out[8]);
+void __wrap_finder_continue(const uint8_t *file, size_t file_len, const uint8_t *sheet, size_t sheet_len, uint8_t *dual, size_t dual_len,
+                            uint32_t *list, size_t list_len, uint32_t position, uint32_t found, uint16_t assumed, uint16_t ruled, uint32_t allowance,
+                            uint64_t out[8])
+{
+    __real_finder_continue(file, file_len, sheet, sheet_len, dual, dual_len, list, list_len, position, found, assumed, ruled, allowance, out);
     WRONG_CONTINUE;
 }
 "#;
 
+/// Where a finder is wrong, and the statement that makes it so.
+#[derive(Clone, Copy, Debug)]
+enum Wrong {
+    Rest(&'static str),
+    Fresh(&'static str),
+    Continue(&'static str),
+    Nowhere,
+}
+
+impl Wrong {
+    /// What the compiler defines for it.
+    fn defines(self) -> [String; 3] {
+        let [mut rest, mut fresh, mut going_on] = [""; 3];
+        match self {
+            Rest(statement) => rest = statement,
+            Fresh(statement) => fresh = statement,
+            Continue(statement) => going_on = statement,
+            Nowhere => {}
+        }
+        [
+            format!("-DWRONG_REST={rest}"),
+            format!("-DWRONG_FRESH={fresh}"),
+            format!("-DWRONG_CONTINUE={going_on}"),
+        ]
+    }
+}
+
 /// What the program prints to standard error over a finder that is wrong so.
-fn complaint(name: &str, in_rest: &str, in_continue: &str) -> String {
-    let wrong = own(&format!("{name}.c"));
-    fs::write(&wrong, WRONG).expect("a file of its own");
-    let defines = [
-        format!("-DWRONG_REST={in_rest}"),
-        format!("-DWRONG_CONTINUE={in_continue}"),
-    ];
-    let more = [
-        "-Wl,--wrap=finder_rest,--wrap=finder_continue",
-        &defines[0],
-        &defines[1],
-        wrong.to_str().expect("a path that is a text"),
-        "target/staticlib/libfinder_c.a",
-    ];
+fn complaint(name: &str, wrong: Wrong) -> String {
+    let source = own(&format!("{name}.c"));
+    fs::write(&source, WRONG).expect("a file of its own");
+    let defines = wrong.defines();
+    let mut more = vec!["-Wl,--wrap=finder_rest,--wrap=finder_fresh,--wrap=finder_continue"];
+    more.extend(defines.iter().map(String::as_str));
+    more.push(source.to_str().expect("a path that is a text"));
+    more.push("target/staticlib/libfinder_c.a");
     let ran = compiled_and_run(C99, name, &more);
     let said = String::from_utf8(ran.stderr).expect("a text");
     let expected = if said.is_empty() { 0 } else { 1 };
@@ -154,27 +186,39 @@ fn complaint(name: &str, in_rest: &str, in_continue: &str) -> String {
 
 #[test]
 fn the_program_fails_where_the_finder_is_wrong() {
-    assert_eq!(complaint("right", "", ""), "");
-    for (number, (in_rest, in_continue, expected)) in [
-        ("", "if (out[4] == 4) list[3]++", "the entries are"),
-        ("", "out[4] = found", "the entries are"),
-        ("", "if (out[7] == 2) out[7] = 1", "the search has ended"),
-        ("", "out[7] = 0", "the search has ended"),
-        ("", "out[6]++", "81 scenarios"),
-        ("", "out[0] = 14", "the call is not refused"),
-        ("", "if (out[0] != 0) out[3]++", "the record is"),
-        ("", "if (out[0] == 11) list[0] = 0", "the list is"),
-        ("", "if (out[0] == 1) out[0] = 2", "continuing tells"),
-        ("", "if (out[0] == 11) out[0] = 12", "a dual buffer"),
-        ("if (out[0] == 1) out[2]++", "", "the file is cut"),
-        ("if (out[0] == 6) out[1] = 0", "", "the sheet has"),
-        ("out[0] = 1", "", "both papers are accepted"),
+    assert_eq!(complaint("right", Nowhere), "");
+    for (number, (wrong, expected)) in [
+        (Continue("if (out[4] == 4) list[3]++"), "the entries are"),
+        (Continue("out[4] = found"), "the entries are"),
+        (
+            Continue("if (ruled && out[7] == 2) list[0]++"),
+            "the entries are",
+        ),
+        (
+            Continue("if (out[7] == 2) out[7] = 1"),
+            "the search has ended",
+        ),
+        (Continue("out[7] = 0"), "the search has ended"),
+        (Continue("out[6]++"), "81 scenarios"),
+        (Continue("if (ruled) out[6]++"), "81 scenarios"),
+        (Continue("out[0] = 14"), "the call is not refused"),
+        (Continue("if (out[0] != 0) out[3]++"), "the record is"),
+        (Continue("if (out[0] == 11) list[0] = 0"), "the list is"),
+        (Continue("if (out[0] == 1) out[0] = 2"), "continuing tells"),
+        (Continue("if (out[0] == 11) out[0] = 12"), "a dual buffer"),
+        (Rest("if (out[0] == 1) out[2]++"), "the file is cut"),
+        (Rest("if (out[0] == 6) out[1] = 0"), "the sheet has"),
+        (Rest("out[0] = 1"), "both papers are accepted"),
+        (Fresh("out[6] = 0"), "the search is begun"),
+        (Fresh("out[5] = 1"), "the search is begun"),
+        (Fresh("if (out[0] == 0) out[3] = 40"), "81 scenarios"),
+        (Fresh("if (out[0] == 15) out[0] = 16"), "the masks share"),
     ]
     .into_iter()
     .enumerate()
     {
-        let said = complaint(&format!("wrong-{number}"), in_rest, in_continue);
+        let said = complaint(&format!("wrong-{number}"), wrong);
         let line = format!("search: not so: {expected}");
-        assert!(said.contains(&line), "{in_rest}{in_continue}: {said:?}");
+        assert!(said.contains(&line), "{wrong:?}: {said:?}");
     }
 }

@@ -1,12 +1,13 @@
 //! The reference calls of document 01, save those with a list of one, which are
-//! in search.rs; and that judging and continuing tell the same of each scenario.
+//! in search.rs as are those that hold faults; and that judging and continuing
+//! tell the same of each scenario.
 
 use calls::lent::{list_pattern, pattern};
 use calls::searching::OF_DESK;
 use calls::{file, sheet, Searching, JUDGINGS, SEARCHINGS};
 use finder::{
-    continue_search, judge, write_dual, Continued, JudgeRefusal, Judgement, Paper, Record, Refusal,
-    State,
+    continue_search, fresh, judge, write_dual, Continued, JudgeRefusal, Judgement, Paper, Record,
+    Refusal, State,
 };
 
 /// No dual and no model is longer.
@@ -18,6 +19,11 @@ const NO_QUERY: &[u8] = &[0x06, 0, 0, 0x7F, 0, 0];
 fn judged(file: &[u8], sheet: &[u8], scenario: u32) -> Judgement {
     let (mut dual, mut model) = (pattern(LONGEST_DUAL), pattern(LONGEST_MODEL));
     judge(file, sheet, scenario, &mut dual, &mut model).expect("an accepted call")
+}
+
+/// The record of a fresh search that holds no fault.
+fn begun(call: &Searching) -> Record {
+    fresh(&call.program.file(), 0, 0).expect("an accepted file")
 }
 
 fn continued(call: &Searching, list: &mut [u32], record: Record, allowance: u32) -> Continued {
@@ -54,7 +60,7 @@ fn judging() {
 fn searching() {
     for call in SEARCHINGS {
         let mut list = list_pattern(9);
-        let whole = continued(call, &mut list, Record::FRESH, u32::MAX);
+        let whole = continued(call, &mut list, begun(call), u32::MAX);
         assert_eq!(whole.tried, call.scenarios, "{call:?}");
         assert_eq!(whole.state, State::Ended, "{call:?}");
         let found = whole.record.found as usize;
@@ -68,7 +74,7 @@ fn judging_each_scenario_tells_what_searching_does() {
     for call in SEARCHINGS {
         let (file, sheet) = (call.program.file(), call.program.sheet(call.query));
         let mut rounds = 0;
-        let mut record = Record::FRESH;
+        let mut record = begun(call);
         let mut list = list_pattern(9);
         for scenario in 0..call.scenarios {
             let judgement = judged(&file, &sheet, scenario);
@@ -82,7 +88,7 @@ fn judging_each_scenario_tells_what_searching_does() {
             rounds += judgement.rounds;
             record = one.record;
         }
-        let whole = continued(call, &mut list_pattern(9), Record::FRESH, u32::MAX);
+        let whole = continued(call, &mut list_pattern(9), begun(call), u32::MAX);
         assert_eq!((whole.record, whole.rounds), (record, rounds));
         assert_eq!(list[..record.found as usize], *call.found);
     }
@@ -90,7 +96,7 @@ fn judging_each_scenario_tells_what_searching_does() {
 
 #[test]
 fn the_sums_of_the_desk_program() {
-    let whole = continued(&OF_DESK, &mut list_pattern(1_024), Record::FRESH, 4_096);
+    let whole = continued(&OF_DESK, &mut list_pattern(1_024), begun(&OF_DESK), 4_096);
     assert_eq!(whole.state, State::Ended);
     assert_eq!((whole.tried, whole.rounds), (3, 3));
 }

@@ -5,10 +5,12 @@ mod pairs;
 mod papers;
 
 use calls::continuing::{self, Continuing, DUAL_LENGTH, RESUMED};
+use calls::holding::{self, A, B, HOLDINGS, REFUSED_MASKS};
 use calls::lent::list_pattern;
 use calls::searching::OF_NOT_P4;
 use finder::{
-    continue_search, continue_words, ContinueRefusal, Continued, Record, Refusal, State, SLOTS,
+    continue_search, continue_words, fresh, ContinueRefusal, Continued, Record, Refusal, State,
+    SLOTS,
 };
 use pairs::{each_pair_with_refused_file, each_pair_with_refused_sheet, first_slots};
 use papers::PATTERN;
@@ -24,8 +26,28 @@ struct Lent<'p> {
     dual_length: usize,
 }
 
+/// A record that holds no fault.
 fn at(position: u32, found: u32) -> Record {
-    Record { position, found }
+    at_holding(position, found, (0, 0))
+}
+
+fn at_holding(position: u32, found: u32, (assumed, ruled): (u16, u16)) -> Record {
+    Record {
+        position,
+        found,
+        assumed,
+        ruled,
+    }
+}
+
+/// Whether the scenario's digits at a and b are those that the record holds.
+fn agrees(record: Record, scenario: u32) -> bool {
+    let is_held = |mask: u16, fault: u32| mask & 1 << fault != 0;
+    (0..2).all(|fault| {
+        let digit = scenario / 3_u32.pow(fault) % 3;
+        (!is_held(record.assumed, fault) || digit == 1)
+            && (!is_held(record.ruled, fault) || digit == 2)
+    })
 }
 
 /// Checks that continuing is refused, that the record comes back as given, and
@@ -62,10 +84,12 @@ fn refused(lent: Lent, list: &[u32], record: Record, refusal: ContinueRefusal) {
 
 fn paper_refused(file: &[u8], sheet: &[u8], refusal: Refusal) {
     for (dual_length, record) in [
-        (100, Record::FRESH),
+        (100, at(0, 0)),
         (100, at(2, 1)),
         (100, at(u32::MAX, u32::MAX)),
         (0, at(1_000, 7)),
+        (100, at_holding(0, 0, (A, B))),
+        (0, at_holding(0, 0, (u16::MAX, u16::MAX))),
     ] {
         let lent = Lent {
             file,
@@ -99,20 +123,22 @@ impl NotP4 {
         }
     }
 
-    /// The rounds of the scenarios, each judged by a call of its own, added up.
-    fn rounds(&self, scenarios: std::ops::Range<u32>) -> u64 {
+    /// The rounds of the scenarios from the record's position to `end` that agree,
+    /// each judged by a call of its own, added up.
+    fn rounds(&self, record: Record, end: u32) -> u64 {
         let (mut dual, mut model) = (vec![0; DUAL_LENGTH], vec![0; 9]);
         let mut rounds = 0;
-        for scenario in scenarios {
+        let scenarios = record.position..end;
+        for scenario in scenarios.filter(|&scenario| agrees(record, scenario)) {
             let judgement = finder::judge(&self.file, &self.sheet, scenario, &mut dual, &mut model);
             rounds += judgement.expect("an accepted call").rounds;
         }
         rounds
     }
 
-    /// Continues, checks the words, the rounds and what must stay, and gives
-    /// tried, state and the new record.
-    fn go_on(&self, list: &mut [u32], record: Record, allowance: u32) -> (u32, State, Record) {
+    /// Continues, checks the words, the rounds and what must stay, and gives the
+    /// answer.
+    fn go_on(&self, list: &mut [u32], record: Record, allowance: u32) -> Continued {
         let NotP4 { file, sheet } = self;
         let before = list.to_vec();
         let mut written = vec![0; DUAL_LENGTH];
@@ -146,11 +172,34 @@ impl NotP4 {
         assert_eq!(out[3..5], record_words);
         assert_eq!(out[5..], [tried.into(), rounds, state_word]);
         assert_eq!(next.position, record.position + tried);
-        assert_eq!(rounds, self.rounds(record.position..next.position));
+        assert_eq!(rounds, self.rounds(record, next.position));
+        assert_eq!((next.assumed, next.ruled), (record.assumed, record.ruled));
         let (old, new) = (record.found as usize, next.found as usize);
         assert_eq!(list[..old], before[..old]);
         assert_eq!(list[new..], before[new..]);
-        (tried, state, next)
+        continued
+    }
+
+    /// Begins a search that holds faults and goes on with this allowance until it
+    /// has stopped. Tells what all calls tried, their rounds, the last state and
+    /// how many were found.
+    fn whole(
+        &self,
+        (assumed, ruled): (u16, u16),
+        list: &mut [u32],
+        allowance: u32,
+    ) -> (u32, u64, continuing::State, u32) {
+        let mut record = fresh(&self.file, assumed, ruled).expect("masks that are accepted");
+        let (mut tried, mut rounds) = (0, 0);
+        loop {
+            let continued = self.go_on(list, record, allowance);
+            tried += continued.tried;
+            rounds += continued.rounds;
+            record = continued.record;
+            if continued.state != State::Going {
+                return (tried, rounds, told(continued.state), record.found);
+            }
+        }
     }
 }
 
@@ -166,8 +215,11 @@ fn told(state: State) -> continuing::State {
 fn each(calls: &[Continuing]) {
     let not_p4 = NotP4::new();
     continuing::each(calls, |list, (position, found), allowance| {
-        let (tried, state, record) = not_p4.go_on(list, at(position, found), allowance);
-        (tried, told(state), (record.position, record.found))
+        let continued = not_p4.go_on(list, at(position, found), allowance);
+        let Record {
+            position, found, ..
+        } = continued.record;
+        (continued.tried, told(continued.state), (position, found))
     });
 }
 
@@ -200,7 +252,7 @@ fn a_record_of_another_search_goes_by_its_list() {
 fn a_pause_forgets_no_entry() {
     let not_p4 = NotP4::new();
     let mut list = list_pattern(4);
-    let mut record = Record::FRESH;
+    let mut record = at(0, 0);
     for position in 1..=9 {
         let found = match position {
             0..2 => 0,
@@ -213,8 +265,13 @@ fn a_pause_forgets_no_entry() {
             State::Ended
         };
         let next = at(position, found);
-        assert_eq!(not_p4.go_on(&mut list, record, 1), (1, state, next));
-        assert_eq!(not_p4.go_on(&mut list, next, 0), (0, state, next));
+        let mut check = |record, allowance| {
+            let continued = not_p4.go_on(&mut list, record, allowance);
+            let given = (continued.tried, continued.state, continued.record);
+            assert_eq!(given, (allowance, state, next));
+        };
+        check(record, 1);
+        check(next, 0);
         record = next;
     }
     assert_eq!(list[..2], [1, 3]);
@@ -237,7 +294,14 @@ fn a_short_dual_is_refused_11() {
     for dual_length in 0..DUAL_LENGTH {
         let lent = not_p4.lent(dual_length);
         // It comes before 14.
-        for record in [Record::FRESH, at(10, 0), at(9, 3)] {
+        for record in [
+            at(0, 0),
+            at(10, 0),
+            at(9, 3),
+            at_holding(0, 0, (A, 0)),
+            at_holding(0, 0, (A, A)),
+            at_holding(0, 0, (0, 0b100)),
+        ] {
             refused(lent, &list, record, ContinueRefusal::ShortDual);
         }
     }
@@ -257,4 +321,41 @@ fn a_spoilt_search_is_refused_14() {
             assert_eq!(list, resumed.list);
         }
     }
+}
+
+#[test]
+fn searches_that_hold_faults_at_once_and_in_pieces() {
+    let not_p4 = NotP4::new();
+    for allowance in [u32::MAX, 10, 9, 5, 4, 3, 2, 1] {
+        holding::each(HOLDINGS, |masks, list| not_p4.whole(masks, list, allowance));
+    }
+}
+
+#[test]
+fn a_record_whose_masks_are_refused_is_spoilt() {
+    let not_p4 = NotP4::new();
+    let lent = not_p4.lent(DUAL_LENGTH);
+    for &(masks, _) in REFUSED_MASKS {
+        for (position, found) in [(0, 0), (4, 1), (9, 2), (10, 0)] {
+            let record = at_holding(position, found, masks);
+            refused(lent, &[1, 7], record, ContinueRefusal::SpoiltSearch);
+        }
+    }
+}
+
+#[test]
+fn listed_entries_that_do_not_agree_bar_what_contains_them() {
+    let not_p4 = NotP4::new();
+    let added = |entry, position, masks| {
+        let mut list = [entry, u32::MAX];
+        let continued = not_p4.go_on(&mut list, at_holding(position, 1, masks), 9);
+        assert_eq!(continued.state, State::Ended);
+        list[1..continued.record.found as usize].to_vec()
+    };
+    // 5 contains 3, and neither 1 nor 4.
+    assert_eq!(added(3, 4, (0, A)), []);
+    assert_eq!(added(1, 4, (0, A)), [5]);
+    assert_eq!(added(4, 5, (0, A)), [5]);
+    // All contain 0.
+    assert_eq!(added(0, 1, (0, B)), []);
 }

@@ -2,7 +2,7 @@
 
 use compare::causes::{causes, query_of_heads};
 use native::{search, Found};
-use plain::Search;
+use plain::{Held, Search};
 use random::seed::{seeds, VARIABLE};
 use random::Random;
 
@@ -26,7 +26,7 @@ fn it_finds_what_the_separate_finder_finds() {
 fn by_plain(mut search: Search) -> Found {
     let count = plain::scenario_count(search.program());
     Found {
-        scenarios: search.minimal_explanations(),
+        scenarios: search.minimal_explanations(Held::NONE),
         tried: count.into(),
         rounds: (0..count)
             .map(|scenario| search.judgement(scenario).rounds)
