@@ -8,15 +8,17 @@
 //!   [`damage`] damages their bytes, fields and numbers;
 //! * [`noise`] makes bytes that were never a paper;
 //! * [`rounds`] puts these together into pairs of papers, and [`files`] into
-//!   files for their duals; [`searches`] makes calls that continue searches;
+//!   files for their duals; [`masks`] makes those of held faults, and
+//!   [`searches`] calls that continue searches;
 //! * [`lent`] makes the buffers and lists that are lent;
 //! * [`examples`] are calls that were not made at random;
 //! * [`comparison`] is what all comparisons do, with the [`words`] that must
 //!   come, and `run` what they print as tests;
 //! * [`coverage`] counts which answers came to pairs of papers, and knows which
 //!   must; [`dual_coverage`] does so for the writing of duals, [`judge_coverage`]
-//!   for judging, with what [`judged`] scenarios have, and [`search_coverage`]
-//!   for continuing, the last three with the counts of [`tally`].
+//!   for judging, with what [`judged`] scenarios have, [`fresh_coverage`] for
+//!   beginning a search and [`search_coverage`] for continuing it, the last four
+//!   with the counts of [`tally`].
 
 #![forbid(unsafe_code)]
 
@@ -29,9 +31,11 @@ pub mod edges;
 pub mod examples;
 pub mod fields;
 pub mod files;
+pub mod fresh_coverage;
 pub mod judge_coverage;
 pub mod judged;
 pub mod lent;
+pub mod masks;
 pub mod noise;
 pub mod places;
 pub mod programs;
