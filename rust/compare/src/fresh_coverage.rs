@@ -7,8 +7,8 @@ use plain::{FreshRefusal, Held, Record};
 use crate::masks::Asked;
 use crate::tally::{Counted, Feature, Numbers, Tally, OF_FILE};
 
-/// Masks that the refusal of a file hides.
-const HIDDEN: &[Feature<Held>] = &[
+/// Masks that the refusal of a paper hides.
+pub const HIDDEN: &[Feature<Held>] = &[
     ("masks without a bit", |held| *held == Held::NONE),
     ("masks that 15 refuses", |held| {
         held.assumed & held.ruled != 0

@@ -12,13 +12,15 @@
 //!   [`searches`] calls that continue searches;
 //! * [`lent`] makes the buffers and lists that are lent;
 //! * [`examples`] are calls that were not made at random;
+//! * [`definition`] is what a whole search must come to, however it is sliced;
 //! * [`comparison`] is what all comparisons do, with the [`words`] that must
 //!   come, and `run` what they print as tests;
 //! * [`coverage`] counts which answers came to pairs of papers, and knows which
 //!   must; [`dual_coverage`] does so for the writing of duals, [`judge_coverage`]
 //!   for judging, with what [`judged`] scenarios have, [`fresh_coverage`] for
-//!   beginning a search and [`search_coverage`] for continuing it, the last four
-//!   with the counts of [`tally`].
+//!   beginning a search and [`search_coverage`] for continuing it, with
+//!   [`held_coverage`] for what held faults do and [`spoilt`] for test 14; all but
+//!   the first with the counts of [`tally`].
 
 #![forbid(unsafe_code)]
 
@@ -26,12 +28,14 @@ pub mod causes;
 pub mod comparison;
 pub mod coverage;
 pub mod damage;
+pub mod definition;
 pub mod dual_coverage;
 pub mod edges;
 pub mod examples;
 pub mod fields;
 pub mod files;
 pub mod fresh_coverage;
+pub mod held_coverage;
 pub mod judge_coverage;
 pub mod judged;
 pub mod lent;
@@ -43,5 +47,6 @@ pub mod rounds;
 mod run;
 pub mod search_coverage;
 pub mod searches;
+pub mod spoilt;
 pub mod tally;
 pub mod words;

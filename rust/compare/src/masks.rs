@@ -16,10 +16,15 @@ pub fn sound(random: &mut Random, abducibles: usize) -> Held {
     holding(random, abducibles, count)
 }
 
-/// Masks that hold so many of the abducibles, often all in the same way.
+/// Masks that hold so many of the abducibles, any of them or the lowest or the
+/// highest, often all in the same way.
 pub fn holding(random: &mut Random, abducibles: usize, count: usize) -> Held {
     let mut faults: Vec<usize> = (0..abducibles).collect();
-    random.shuffle(&mut faults);
+    match random.below(4) {
+        0 => {}
+        1 => faults.reverse(),
+        _ => random.shuffle(&mut faults),
+    }
     let mut held = Held::NONE;
     let ways: &[bool] = random.pick(&[&[true], &[false], &[true, false], &[true, false]]);
     for &fault in &faults[..count] {

@@ -1,9 +1,12 @@
 //! Which searches were continued and what came of it, and which of these must
 //! come for a comparison to be worth something.
 
-use plain::{contains_assumptions, ContinueRefusal, Continued, Paper, Record, State};
+use plain::{contains_assumptions, ContinueRefusal, Continued, Held, Paper, Record, State};
 
-use crate::searches::{Papers, Terms};
+use crate::fresh_coverage::HIDDEN;
+use crate::held_coverage::{HeldCall, HeldSearch, HELD_CALLS, HELD_SEARCHES};
+use crate::searches::{Papers, Went, LANES};
+use crate::spoilt::{Spoilt, SPOILT};
 use crate::tally::{Counted, Feature, Numbers, Tally, OF_FILE, OF_SHEET};
 
 /// A call that was accepted.
@@ -24,22 +27,13 @@ pub struct Call {
     is_at_stop: bool,
 }
 
-/// How many scenarios can be settled at once.
-const LANES: u32 = 64;
-
 impl Call {
-    /// One that went on from the record, with the list as it was before the call
-    /// and as it was after.
-    pub fn new(
-        papers: &mut Papers,
-        terms: &Terms,
-        record: Record,
-        [before, after]: [&[u32]; 2],
-        continued: Continued,
-        is_reached: bool,
-    ) -> Self {
-        let listed = &before[..record.found as usize];
-        let found = &after[..continued.record.found as usize];
+    fn new(papers: &mut Papers, went: &Went) -> Self {
+        let Went {
+            record, continued, ..
+        } = *went;
+        let held = record.held();
+        let (listed, found) = (went.listed(), went.found());
         let contains_one_of = |scenario: u32, entries: &[u32]| {
             let mut entries = entries.iter();
             entries.any(|&entry| contains_assumptions(scenario, entry))
@@ -47,7 +41,7 @@ impl Call {
         let end = continued.record.position;
         let (mut barred_by_earlier, mut barred_by_added) = (0, 0);
         for scenario in record.position..end {
-            if papers.search.judgement(scenario).explains && !found.contains(&scenario) {
+            if papers.explains(held, scenario) && !found.contains(&scenario) {
                 if contains_one_of(scenario, listed) {
                     barred_by_earlier += 1;
                 } else {
@@ -57,16 +51,16 @@ impl Call {
         }
         Call {
             scenarios: papers.scenarios,
-            list_length: after.len(),
-            is_reached,
+            list_length: went.after.len(),
+            is_reached: went.is_reached,
             record,
-            allowance: terms.allowance,
+            allowance: went.allowance,
             continued,
             barred_by_earlier,
             barred_by_added,
             is_at_stop: end < papers.scenarios
-                && found.len() == after.len()
-                && papers.search.judgement(end).explains
+                && found.len() == went.after.len()
+                && papers.explains(held, end)
                 && !contains_one_of(end, found),
         }
     }
@@ -169,59 +163,6 @@ const CALLS: &[Feature<Call>] = &[
     ("16 abducibles", |it| it.scenarios == 43_046_721),
 ];
 
-/// A record and list that are refused, or hidden by a refusal before.
-pub struct Spoilt {
-    pub position_above: bool,
-    pub found_above: bool,
-    pub not_rising: bool,
-    pub not_below: bool,
-}
-
-impl Spoilt {
-    /// Which of the four ways of test 14 they are spoilt in. Where found is
-    /// above the list's length there are no first found entries to look at.
-    pub fn new(scenarios: u32, list: &[u32], record: Record) -> Self {
-        let entries = list.get(..record.found as usize).unwrap_or(&[]);
-        let mut neighbours = entries.iter().zip(entries.iter().skip(1));
-        Spoilt {
-            position_above: record.position > scenarios,
-            found_above: record.found as usize > list.len(),
-            not_rising: neighbours.any(|(one, next)| one >= next),
-            not_below: entries.iter().any(|&entry| entry >= record.position),
-        }
-    }
-
-    fn ways(&self) -> usize {
-        let ways = [
-            self.position_above,
-            self.found_above,
-            self.not_rising,
-            self.not_below,
-        ];
-        ways.into_iter().filter(|&is_it| is_it).count()
-    }
-
-    pub fn is_spoilt(&self) -> bool {
-        self.ways() > 0
-    }
-}
-
-const SPOILT: &[Feature<Spoilt>] = &[
-    ("its position above 3^k alone", |it| {
-        it.ways() == 1 && it.position_above
-    }),
-    ("found above the list's length alone", |it| {
-        it.ways() == 1 && it.found_above
-    }),
-    ("entries not rising alone", |it| {
-        it.ways() == 1 && it.not_rising
-    }),
-    ("entries not below its position alone", |it| {
-        it.ways() == 1 && it.not_below
-    }),
-    ("several of these", |it| it.ways() > 1),
-];
-
 /// A call that was refused for its dual buffer.
 pub struct ShortDual {
     pub spoilt: Spoilt,
@@ -237,15 +178,24 @@ const SHORT_DUALS: &[Feature<ShortDual>] = &[
         !it.spoilt.is_spoilt() && it.record.found > 0
     }),
     ("a spoilt search", |it| it.spoilt.is_spoilt()),
+    ("a search that is spoilt by its masks alone", |it| {
+        it.spoilt.is_spoilt_by_masks_alone()
+    }),
+    ("held faults", |it| {
+        !it.spoilt.is_spoilt() && it.record.held() != Held::NONE
+    }),
 ];
 
 /// How often each answer came.
 pub struct SearchCoverage {
     file: Numbers,
     sheet: Numbers,
+    hidden: Tally<Held>,
     pub short_duals: Tally<ShortDual>,
     pub spoilt: Tally<Spoilt>,
-    pub calls: Tally<Call>,
+    calls: Tally<Call>,
+    held_calls: Tally<HeldCall>,
+    pub held_searches: Tally<HeldSearch>,
 }
 
 impl Default for SearchCoverage {
@@ -253,16 +203,20 @@ impl Default for SearchCoverage {
         SearchCoverage {
             file: Numbers::new("file refused", OF_FILE),
             sheet: Numbers::new("sheet refused", OF_SHEET),
+            hidden: Tally::new("papers refused", HIDDEN),
             short_duals: Tally::new("refused 11", SHORT_DUALS),
             spoilt: Tally::new("refused 14", SPOILT),
             calls: Tally::new("calls accepted", CALLS),
+            held_calls: Tally::new("calls that hold faults", HELD_CALLS),
+            held_searches: Tally::new("searches that hold faults", HELD_SEARCHES),
         }
     }
 }
 
 impl SearchCoverage {
-    /// Counts the refusal of a paper.
-    pub fn count_refused(&mut self, refusal: &ContinueRefusal) {
+    /// Counts the refusal of a paper, whatever was held.
+    pub fn count_refused(&mut self, refusal: &ContinueRefusal, held: &Held) {
+        self.hidden.count(held);
         let ContinueRefusal::Papers(of_paper) = refusal else {
             panic!("the papers are not accepted");
         };
@@ -272,13 +226,24 @@ impl SearchCoverage {
         }
     }
 
-    pub fn parts(&self) -> [&dyn Counted; 5] {
+    /// Counts a call that was accepted.
+    pub fn count_accepted(&mut self, papers: &mut Papers, went: &Went) {
+        self.calls.count(&Call::new(papers, went));
+        if went.record.held() != Held::NONE {
+            self.held_calls.count(&HeldCall::new(papers, went));
+        }
+    }
+
+    pub fn parts(&self) -> [&dyn Counted; 8] {
         [
             &self.file,
             &self.sheet,
+            &self.hidden,
             &self.short_duals,
             &self.spoilt,
             &self.calls,
+            &self.held_calls,
+            &self.held_searches,
         ]
     }
 }
@@ -287,39 +252,12 @@ impl SearchCoverage {
 mod tests {
     use super::*;
 
-    fn ways(list: &[u32], position: u32, found: u32) -> [bool; 4] {
-        let record = Record {
-            position,
-            found,
-            assumed: 0,
-            ruled: 0,
-        };
-        let spoilt = Spoilt::new(9, list, record);
-        [
-            spoilt.position_above,
-            spoilt.found_above,
-            spoilt.not_rising,
-            spoilt.not_below,
-        ]
-    }
-
-    #[test]
-    fn a_search_is_spoilt_in_four_ways() {
-        assert_eq!(ways(&[1, 3], 9, 2), [false; 4]);
-        assert_eq!(ways(&[1, 1, 99], 2, 1), [false; 4]);
-        assert_eq!(ways(&[], 10, 0), [true, false, false, false]);
-        assert_eq!(ways(&[9, 9], 0, 3), [false, true, false, false]);
-        assert_eq!(ways(&[3, 1], 9, 2), [false, false, true, false]);
-        assert_eq!(ways(&[1, 1], 9, 2), [false, false, true, false]);
-        assert_eq!(ways(&[1, 3], 3, 2), [false, false, false, true]);
-        assert_eq!(ways(&[8, 7], 8, 2), [false, false, true, true]);
-        assert_eq!(ways(&[8], u32::MAX, 9), [true, true, false, false]);
-    }
-
     #[test]
     fn what_never_came_is_complained_of() {
         let numbers = 10 + 5;
-        let features = SHORT_DUALS.len() + SPOILT.len() + CALLS.len();
+        let of_held = HELD_CALLS.len() + HELD_SEARCHES.len();
+        let refused = HIDDEN.len() + SHORT_DUALS.len() + SPOILT.len();
+        let features = refused + CALLS.len() + of_held;
         let coverage = SearchCoverage::default();
         let complaints = coverage.parts().map(|part| part.complaints().len());
         assert_eq!(complaints.iter().sum::<usize>(), numbers + features);

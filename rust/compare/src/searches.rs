@@ -1,13 +1,16 @@
-//! Random searches: their papers, what each call is allowed and lent, and
-//! records that were not reached from a fresh search.
+//! Random searches: their papers, the faults that they hold, what each call is
+//! allowed and lent, and records that were not reached from a fresh search.
+
+use std::ops::Range;
 
 use plain::{
-    dual, encode_dual, encode_file, encode_sheet, scenario_count, Held, Program, Query, Record,
-    Search,
+    dual, encode_dual, encode_file, encode_sheet, scenario_count, Continued, Held, Program, Query,
+    Record, Search,
 };
 use random::Random;
 
 use crate::causes::{causes, query_of_heads};
+use crate::masks::{self, Asked};
 
 /// Papers that are accepted.
 pub struct Papers {
@@ -15,6 +18,8 @@ pub struct Papers {
     pub sheet: Vec<u8>,
     pub search: Search,
     pub dual_length: usize,
+    /// k, and 3^k.
+    pub abducibles: usize,
     pub scenarios: u32,
 }
 
@@ -24,9 +29,18 @@ impl Papers {
             file: encode_file(&program),
             sheet: encode_sheet(&query),
             dual_length: encode_dual(&dual(&program)).len(),
+            abducibles: program.abducibles.len(),
             scenarios: scenario_count(&program),
             search: Search::keeping(program, query),
         }
+    }
+
+    /// Those of a reference call.
+    #[cfg(test)]
+    pub fn of_call(call: &calls::Searching) -> Self {
+        let (file, sheet) = (call.program.file(), call.program.sheet(call.query));
+        let (program, query) = plain::read_papers(&file, &sheet).expect("accepted papers");
+        Papers::new(program, query)
     }
 
     /// Those of a file all of whose scenarios can be judged.
@@ -49,8 +63,22 @@ impl Papers {
         Papers::new(program, query)
     }
 
+    /// What a search over them may hold; nothing every other time.
+    pub fn some_held(&self, random: &mut Random) -> Held {
+        if random.one_in(2) {
+            Held::NONE
+        } else {
+            masks::sound(random, self.abducibles)
+        }
+    }
+
+    /// Whether the scenario is an explanation of a search that holds these.
+    pub fn explains(&mut self, held: Held, scenario: u32) -> bool {
+        held.agrees(scenario) && self.search.judgement(scenario).explains
+    }
+
     /// From 0 on; often about as many entries as there are to find.
-    pub fn a_list_length(&mut self, random: &mut Random) -> usize {
+    pub fn a_list_length(&mut self, random: &mut Random, held: Held) -> usize {
         match random.below(8) {
             0 => 0,
             1 => 1,
@@ -58,22 +86,35 @@ impl Papers {
             3 => self.scenarios as usize + random.below(2),
             4 => random.pick(&[63, 64, 65, 1_024, 5_000]),
             _ if self.scenarios <= 243 => {
-                let minimal = self.search.minimal_explanations(Held::NONE).len();
+                let minimal = self.search.minimal_explanations(held).len();
                 (minimal + random.below(3)).saturating_sub(1)
             }
             _ => random.below(5),
         }
     }
 
-    /// Anywhere, more often at either end.
-    pub fn a_position(&self, random: &mut Random) -> u32 {
+    /// Anywhere, more often at either end or where a scenario agrees.
+    pub fn a_position(&self, random: &mut Random, held: Held) -> u32 {
         let scenarios = self.scenarios;
         match random.below(8) {
             0 => 0,
             1 => scenarios,
             2 | 3 => scenarios - random.below(scenarios.min(150) as usize) as u32,
+            4 | 5 => self.an_agreeing_scenario(random, held),
             _ => random.below(scenarios as usize + 1) as u32,
         }
+    }
+
+    fn an_agreeing_scenario(&self, random: &mut Random, held: Held) -> u32 {
+        (0..self.abducibles).rev().fold(0, |scenario, fault| {
+            let has_bit = |mask: u16| mask >> fault & 1 == 1;
+            let digit = match (has_bit(held.assumed), has_bit(held.ruled)) {
+                (true, _) => 1,
+                (_, true) => 2,
+                _ => random.below(3) as u32,
+            };
+            3 * scenario + digit
+        })
     }
 }
 
@@ -121,16 +162,30 @@ pub struct Terms {
 }
 
 impl Terms {
+    /// Those of a call that goes as far as there is to go.
+    pub fn whole(papers: &Papers) -> Self {
+        Terms {
+            allowance: u32::MAX,
+            dual_lent: papers.dual_length,
+        }
+    }
+
     pub fn new(random: &mut Random, pace: Pace, papers: &Papers, record: Record) -> Self {
         let left = papers.scenarios.saturating_sub(record.position);
         let allowance = pace.allowance(random, left);
+        let asked = Asked {
+            held: record.held(),
+            abducibles: papers.abducibles,
+        };
+        // Where more are left than can be gone through, less is allowed; where
+        // next to all faults are held, few of them are judged.
+        let most = match asked.count() {
+            _ if left <= 10_000 => u32::MAX,
+            count if count + 3 >= papers.abducibles => 3_000,
+            _ => 300,
+        };
         Terms {
-            // Where more are left than can be gone through, less is allowed.
-            allowance: if left > 10_000 {
-                allowance.min(300)
-            } else {
-                allowance
-            },
+            allowance: allowance.min(most),
             dual_lent: match random.below(12) {
                 0 => random.pick(&[
                     0,
@@ -142,6 +197,37 @@ impl Terms {
                 _ => papers.dual_length,
             },
         }
+    }
+}
+
+/// How many scenarios can be settled at once.
+pub const LANES: u32 = 64;
+
+/// A call that was accepted, as it went.
+pub struct Went<'l> {
+    pub record: Record,
+    /// Whether the record was reached from a fresh search.
+    pub is_reached: bool,
+    pub allowance: u32,
+    /// The list as it was before the call, and as it was after.
+    pub before: &'l [u32],
+    pub after: &'l [u32],
+    pub continued: Continued,
+}
+
+impl Went<'_> {
+    pub fn tried(&self) -> Range<u32> {
+        self.record.position..self.continued.record.position
+    }
+
+    /// The entries that were listed before.
+    pub fn listed(&self) -> &[u32] {
+        &self.before[..self.record.found as usize]
+    }
+
+    /// Those that are listed after it.
+    pub fn found(&self) -> &[u32] {
+        &self.after[..self.continued.record.found as usize]
     }
 }
 
@@ -158,13 +244,14 @@ impl AnyRecord {
         let mut any = AnyRecord::sound(random, papers);
         // Twice where a way to spoil it is to hide another.
         for _ in 0..random.pick(&[0, 0, 0, 0, 1, 1, 2]) {
-            any.spoil(random, papers.scenarios);
+            any.spoil(random, papers);
         }
         any
     }
 
     fn sound(random: &mut Random, papers: &Papers) -> Self {
-        let position = papers.a_position(random);
+        let held = papers.some_held(random);
+        let position = papers.a_position(random, held);
         let mut entries: Vec<u32> = (0..random.below(6).min(position as usize))
             .map(|_| random.below(position as usize) as u32)
             .collect();
@@ -178,30 +265,36 @@ impl AnyRecord {
             record: Record {
                 position,
                 found: entries.len() as u32,
-                assumed: 0,
-                ruled: 0,
+                assumed: held.assumed,
+                ruled: held.ruled,
             },
             list_length: entries.len() + random.pick(&[0, 0, 1, 2, 3, 10]),
             entries,
         }
     }
 
-    /// Spoils the record, or the entries listed, in one of the four ways where
-    /// it can.
-    fn spoil(&mut self, random: &mut Random, scenarios: u32) {
+    /// Spoils the record, or the entries listed, in one of the ways of test 14
+    /// where it can.
+    fn spoil(&mut self, random: &mut Random, papers: &Papers) {
         let AnyRecord {
             record,
             entries,
             list_length,
         } = self;
+        let scenarios = papers.scenarios;
         let any = random.below(6) as u32;
-        match random.below(4) {
+        match random.below(5) {
             0 => record.position = random.pick(&[scenarios + 1, scenarios + 2 + any, u32::MAX]),
             1 => {
                 let above = *list_length as u32 + 1;
                 record.found = random.pick(&[above, above + any, u32::MAX]);
             }
-            2 if entries.len() > 1 => {
+            2 => {
+                let mut held = record.held();
+                masks::spoil(random, &mut held, papers.abducibles);
+                (record.assumed, record.ruled) = (held.assumed, held.ruled);
+            }
+            3 if entries.len() > 1 => {
                 let one = random.below(entries.len() - 1);
                 if random.one_in(2) {
                     entries.swap(one, one + 1);
@@ -227,13 +320,13 @@ impl AnyRecord {
 #[cfg(test)]
 mod tests {
     use super::*;
-    use crate::search_coverage::Spoilt;
+    use crate::spoilt::Spoilt;
     use random::seed::seed;
 
     fn is_spoilt(papers: &Papers, any: &AnyRecord) -> bool {
         let mut list = any.entries.clone();
         list.resize(any.list_length, 0);
-        Spoilt::new(papers.scenarios, &list, any.record).is_spoilt()
+        Spoilt::new(papers.abducibles, &list, any.record).is_spoilt()
     }
 
     #[test]
@@ -244,10 +337,21 @@ mod tests {
             let papers = Papers::searchable(&mut random);
             let mut any = AnyRecord::sound(&mut random, &papers);
             assert!(!is_spoilt(&papers, &any));
-            any.spoil(&mut random, papers.scenarios);
+            any.spoil(&mut random, &papers);
             spoilt += usize::from(is_spoilt(&papers, &any));
         }
-        // Without entries there are but two ways.
+        // Without entries there are but three ways.
         assert!(spoilt > 1_000, "{spoilt} are spoilt");
+    }
+
+    #[test]
+    fn a_scenario_that_is_to_agree_does() {
+        let mut random = Random::new(seed(14));
+        for _ in 0..2_000 {
+            let papers = Papers::searchable(&mut random);
+            let held = papers.some_held(&mut random);
+            let scenario = papers.an_agreeing_scenario(&mut random, held);
+            assert!(scenario < papers.scenarios && held.agrees(scenario));
+        }
     }
 }

@@ -12,8 +12,8 @@ use compare::words;
 use plain::dual::LONGEST_DUAL;
 use plain::model::LONGEST_MODEL;
 use plain::{
-    continue_search, dual, encode_dual, encode_file, encode_sheet, judge, scenario_count, Program,
-    Query, Record,
+    continue_search, dual, encode_dual, encode_file, encode_sheet, judge, scenario_count, Held,
+    Program, Query, Record,
 };
 use random::Random;
 
@@ -47,7 +47,8 @@ struct Case {
     /// The scenario that is judged, and its rounds where they are known.
     scenario: u32,
     rounds: Option<u64>,
-    /// Where the search goes on from and what it may try.
+    /// What the search holds, where it goes on from and what it may try.
+    held: Held,
     position: u32,
     allowance: u32,
 }
@@ -62,6 +63,7 @@ fn one_scenario(name: &'static str, rounds: u64, program: Program) -> Case {
         query: NO_QUERY,
         scenario: 0,
         rounds: Some(rounds),
+        held: Held::NONE,
         position: 0,
         allowance: 1,
     }
@@ -88,8 +90,23 @@ fn by_hand() -> Vec<Case> {
             query: NO_QUERY,
             scenario: 43_046_720,
             rounds: None,
+            held: Held::NONE,
             position: 0,
             allowance: 70,
+        },
+        Case {
+            name: "the same with a fault of each half held",
+            program: guarded(),
+            query: NO_QUERY,
+            scenario: 1,
+            rounds: None,
+            held: Held {
+                assumed: 0b10,
+                ruled: 1 << 15,
+            },
+            // A batch and more before the first with the last fault ruled out.
+            position: 2 * 3_u32.pow(15) - 100,
+            allowance: 300,
         },
     ]
 }
@@ -112,8 +129,22 @@ fn at_random(random: &mut Random) -> Vec<Case> {
             query: NO_QUERY,
             scenario: scenarios - 1,
             rounds: None,
+            held: Held::NONE,
             position: 0,
             allowance: 130,
+        },
+        Case {
+            name: "the same with all faults held",
+            program: largest.clone(),
+            query: NO_QUERY,
+            scenario: scenarios / 3,
+            rounds: None,
+            held: Held {
+                assumed: 0,
+                ruled: u16::MAX,
+            },
+            position: scenarios - 20_000,
+            allowance: u32::MAX,
         },
         Case {
             name: "the same up to its last scenario",
@@ -121,6 +152,7 @@ fn at_random(random: &mut Random) -> Vec<Case> {
             query,
             scenario: scenarios / 2,
             rounds: None,
+            held: Held::NONE,
             position: scenarios - 100,
             allowance: u32::MAX,
         },
@@ -130,6 +162,7 @@ fn at_random(random: &mut Random) -> Vec<Case> {
             query: NO_QUERY,
             scenario: scenarios - 1,
             rounds: None,
+            held: Held::NONE,
             position: scenarios / 3,
             allowance: 130,
         },
@@ -139,6 +172,7 @@ fn at_random(random: &mut Random) -> Vec<Case> {
             query: NO_QUERY,
             scenario: 0,
             rounds: None,
+            held: Held::NONE,
             position: 0,
             allowance: u32::MAX,
         },
@@ -183,6 +217,7 @@ fn search_case(comparison: &mut Comparison, case: &Case) {
 
     let Case {
         name,
+        held,
         position,
         allowance,
         ..
@@ -190,8 +225,8 @@ fn search_case(comparison: &mut Comparison, case: &Case) {
     let record = Record {
         position,
         found: 0,
-        assumed: 0,
-        ruled: 0,
+        assumed: held.assumed,
+        ruled: held.ruled,
     };
     let (dual, list) = (expected_dual.part(), expected_list.part());
     let (answer, plain_time) =

@@ -8,7 +8,7 @@ use finder::{continue_search, fresh, judge, State};
 use plain::desk::LIST_LENGTH;
 use plain::dual::LONGEST_DUAL;
 use plain::model::LONGEST_MODEL;
-use plain::{minimal_explanations, minimal_of, read_papers, scenario_count, Held, Program};
+use plain::{minimal_explanations, minimal_of, read_papers, scenario_count, Held, Program, Search};
 
 const ALLOWANCES: [u32; 8] = [1, 2, 3, 7, 63, 64, 65, u32::MAX];
 
@@ -80,6 +80,41 @@ fn every_slicing_finds_what_is_expected() {
             search(example, std::iter::repeat(allowance));
         }
         search(example, ALLOWANCES[..7].iter().copied().cycle());
+    });
+}
+
+/// Each fault by itself, held either way, and the faults of one half against
+/// those of the other.
+fn some_held(abducibles: usize) -> Vec<Held> {
+    let half = (1 << (abducibles / 2)) - 1;
+    let all = (1 << abducibles) - 1;
+    let bits = (0..abducibles).map(|fault| 1 << fault);
+    let assumed = bits.clone().map(|bit| (bit, 0));
+    let ruled = bits.map(|bit| (0, bit));
+    let halves = [(half, all & !half), (all & !half, half)];
+    let masks = assumed.chain(ruled).chain(halves);
+    masks
+        .map(|(assumed, ruled)| Held { assumed, ruled })
+        .collect()
+}
+
+#[test]
+fn what_is_found_with_held_faults_is_that_of_the_definition() {
+    each(|example| {
+        let Example { causes, sheet, .. } = example;
+        let (program, query) = read_papers(causes, sheet).expect("accepted papers");
+        let abducibles = program.abducibles.len();
+        let mut by_definition = Search::keeping(program, query);
+        let mut dual = vec![0; LONGEST_DUAL];
+        for held in some_held(abducibles) {
+            let mut list = vec![u32::MAX; LIST_LENGTH];
+            let record = fresh(causes, held.assumed, held.ruled).expect("masks that are accepted");
+            let answer = continue_search(causes, sheet, &mut dual, &mut list, record, u32::MAX);
+            let continued = answer.expect("an accepted call");
+            assert_eq!(continued.state, State::Ended);
+            list.truncate(continued.record.found as usize);
+            assert_eq!(list, by_definition.minimal_explanations(held), "{held:?}");
+        }
     });
 }
 

@@ -1,13 +1,16 @@
 //! Compares the two finders in beginning searches over random files, with masks
 //! of held faults that are accepted and with masks that are not.
 
-use compare::comparison::{Comparison, Told};
+mod beginning;
+
+use compare::comparison::Comparison;
 use compare::files::{mixed_files, FileExaminer};
 use compare::fresh_coverage::FreshCoverage;
 use compare::masks::{any, holding, sound, spoil, Asked};
-use compare::words;
-use plain::{encode_file, fresh, read_file, FreshRefusal, Held, Program, Record};
+use plain::{encode_file, fresh, read_file, Held, Program};
 use random::Random;
+
+use beginning::{begin, told};
 
 const LEAST_FILES: u64 = 100_000;
 
@@ -71,7 +74,7 @@ impl Begun {
         spoil(random, &mut spoilt_alone, abducibles);
         let some = sound(random, abducibles);
         for held in [Held::NONE, all, some, spoilt, spoilt_alone, any(random)] {
-            let answer = self.compare(file, held);
+            let answer = begin(&mut self.comparison, file, held);
             let asked = Asked { held, abducibles };
             self.coverage.count_asked(&asked, &answer);
         }
@@ -80,28 +83,9 @@ impl Begun {
     fn refused(&mut self, file: &[u8]) {
         let random = &mut self.comparison.patterns.random;
         for held in [any(random), any(random)] {
-            let answer = self.compare(file, held);
+            let answer = begin(&mut self.comparison, file, held);
             let refusal = answer.expect_err("a refused file");
             self.coverage.count_refused(&refusal, &held);
         }
-    }
-
-    fn compare(&mut self, file: &[u8], held: Held) -> Result<Record, FreshRefusal> {
-        let Held { assumed, ruled } = held;
-        let mut found = self.comparison.patterns.words();
-        let answer = fresh(file, assumed, ruled);
-        finder::fresh_words(file, assumed, ruled, &mut found);
-        let expected = words::of_fresh(&answer);
-        self.comparison
-            .expect_words(&found, &expected, &told(file, held));
-        answer
-    }
-}
-
-fn told(file: &[u8], held: Held) -> Told<'_> {
-    Told {
-        file,
-        sheet: &[],
-        with: format!("{held:?}"),
     }
 }

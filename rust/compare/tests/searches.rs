@@ -1,27 +1,34 @@
-//! Compares the two finders in continuing searches over random files: fresh ones
-//! in random calls, and records that were not reached from a fresh search.
+//! Compares the two finders in continuing searches over random files, with held
+//! faults and without: fresh ones in random calls, which must come to what the
+//! definition says, and records that were not reached from a fresh search.
 
+mod beginning;
 mod crossing;
 
 use compare::comparison::{Comparison, Told};
+use compare::definition::{Definition, Sums};
+use compare::held_coverage::HeldSearch;
 use compare::lent::Lent;
+use compare::masks::{self, Asked};
 use compare::rounds::{limit_round, small_round, Examiner};
-use compare::search_coverage::{Call, SearchCoverage, ShortDual, Spoilt};
-use compare::searches::{AnyRecord, Pace, Papers, Terms};
+use compare::search_coverage::{SearchCoverage, ShortDual};
+use compare::searches::{AnyRecord, Pace, Papers, Terms, Went};
+use compare::spoilt::Spoilt;
 use compare::words;
 use plain::{
-    continue_search, encode_file, encode_sheet, fresh, read_papers, ContinueRefusal, Continued,
+    continue_search, encode_file, encode_sheet, read_papers, ContinueRefusal, Continued, Held,
     Program, Query, Record, State,
 };
 use random::Random;
 
+use beginning::begin;
 use crossing::crossing;
 
 /// Files with a fresh search in many calls.
 const FILES: u64 = 20_000;
 
 /// Files with more scenarios than can be gone through.
-const WIDE_FILES: u64 = 1_000;
+const WIDE_FILES: u64 = 3_000;
 
 /// Rounds of papers that are damaged, some of them large.
 const SMALL_ROUNDS: u64 = 300;
@@ -66,27 +73,62 @@ fn main() {
     comparison.end(&compared, &coverage.parts());
 }
 
+/// Goes through a fresh search, in pieces and at once: both must come to what
+/// the definition says.
+fn fresh_search(random: &mut Random, papers: &mut Papers, searches: &mut Searches) {
+    let held = papers.some_held(random);
+    let length = papers.a_list_length(random, held);
+    let patterns = &mut searches.comparison.patterns;
+    let list = patterns.list(length, papers.scenarios);
+    let begun = begin(&mut searches.comparison, &papers.file, held);
+    let start = begun.expect("masks that are accepted");
+    let definition = Definition::new(papers, held, length);
+
+    let mut in_pieces = list.clone();
+    let (record, sums) = pieces(random, papers, searches, &mut in_pieces, start);
+    searches.expect_definition(papers, &definition, (record, sums), in_pieces.part());
+
+    let mut at_once = list;
+    let terms = Terms::whole(papers);
+    let continued = searches.accepted(papers, &mut at_once, start, &terms, true);
+    let continued = continued.expect("a call that is accepted");
+    let mut sums = Sums::default();
+    sums.add(&continued);
+    searches.expect_definition(
+        papers,
+        &definition,
+        (continued.record, sums),
+        at_once.part(),
+    );
+    if held != Held::NONE {
+        searches.count_held(papers, held, definition, length);
+    }
+}
+
 /// Goes on from a fresh record in random calls, a few of them refused, until
 /// the search has stopped twice.
-fn fresh_search(random: &mut Random, papers: &mut Papers, searches: &mut Searches) {
-    let length = papers.a_list_length(random);
-    let patterns = &mut searches.comparison.patterns;
-    let mut list = patterns.list(length, papers.scenarios);
-    let mut record = fresh(&papers.file, 0, 0).expect("an accepted file");
+fn pieces(
+    random: &mut Random,
+    papers: &mut Papers,
+    searches: &mut Searches,
+    list: &mut Lent<u32>,
+    start: Record,
+) -> (Record, Sums) {
+    let mut record = start;
+    let mut sums = Sums::default();
     let pace = random.pick(&Pace::ALL);
-    let mut stops = 0;
-    for calls in 0.. {
+    let (mut calls, mut stops) = (0, 0);
+    while stops < 2 {
         let pace = if calls < 30 { pace } else { Pace::Large };
         let terms = Terms::new(random, pace, papers, record);
-        let Some(continued) = searches.accepted(papers, &mut list, record, &terms, true) else {
-            continue;
-        };
-        record = continued.record;
-        stops += usize::from(continued.state != State::Going);
-        if stops == 2 {
-            break;
+        if let Some(continued) = searches.accepted(papers, list, record, &terms, true) {
+            record = continued.record;
+            sums.add(&continued);
+            stops += usize::from(continued.state != State::Going);
         }
+        calls += 1;
     }
+    (record, sums)
 }
 
 /// Goes on for a few calls from a record of no search, with a list to match or
@@ -130,11 +172,12 @@ impl Examiner for Searches {
             Ok((program, query)) => {
                 let mut papers = Papers::new(program, query);
                 let mut list = patterns.list(random.below(3), papers.scenarios);
+                let held = papers.some_held(&mut random);
                 let record = Record {
-                    position: papers.a_position(&mut random),
+                    position: papers.a_position(&mut random, held),
                     found: 0,
-                    assumed: 0,
-                    ruled: 0,
+                    assumed: held.assumed,
+                    ruled: held.ruled,
                 };
                 let terms = Terms {
                     allowance: random.below(4) as u32,
@@ -148,6 +191,37 @@ impl Examiner for Searches {
 }
 
 impl Searches {
+    /// Fails where a search that has stopped is not as the definition says.
+    fn expect_definition(
+        &self,
+        papers: &Papers,
+        definition: &Definition,
+        (record, sums): (Record, Sums),
+        list: &[u32],
+    ) {
+        if let Some(complaint) = definition.complaint(record, sums, list) {
+            self.fail(&complaint, &papers.file, &papers.sheet);
+        }
+    }
+
+    fn count_held(
+        &mut self,
+        papers: &mut Papers,
+        held: Held,
+        holding: Definition,
+        list_length: usize,
+    ) {
+        self.coverage.held_searches.count(&HeldSearch {
+            asked: Asked {
+                held,
+                abducibles: papers.abducibles,
+            },
+            without: Definition::new(papers, Held::NONE, list_length),
+            holding,
+            scenarios: papers.scenarios,
+        });
+    }
+
     /// Continues with papers that are accepted, and gives what comes where the
     /// call is accepted too.
     fn accepted(
@@ -167,12 +241,18 @@ impl Searches {
             terms,
             |dual, list| search.continue_search(dual, list, record, terms.allowance),
         );
-        let spoilt = Spoilt::new(papers.scenarios, &before, record);
+        let spoilt = Spoilt::new(papers.abducibles, &before, record);
         match answer {
             Ok(continued) => {
-                let lists = [&before[..], list.part()];
-                let call = Call::new(papers, terms, record, lists, continued, is_reached);
-                self.coverage.calls.count(&call);
+                let went = Went {
+                    record,
+                    is_reached,
+                    allowance: terms.allowance,
+                    before: &before,
+                    after: list.part(),
+                    continued,
+                };
+                self.coverage.count_accepted(papers, &went);
                 return Some(continued);
             }
             Err(ContinueRefusal::ShortDual) => self.coverage.short_duals.count(&ShortDual {
@@ -192,11 +272,12 @@ impl Searches {
     /// Continues with papers that are refused, from any record.
     fn refused(&mut self, random: &mut Random, file: &[u8], sheet: &[u8]) {
         let mut list = self.comparison.patterns.list(random.below(4), 9);
+        let Held { assumed, ruled } = masks::any(random);
         let record = Record {
             position: random.pick(&[0, 1, 9, u32::MAX]),
             found: random.pick(&[0, 0, 1, 4, u32::MAX]),
-            assumed: 0,
-            ruled: 0,
+            assumed,
+            ruled,
         };
         let terms = Terms {
             allowance: random.pick(&[0, 1, 64, u32::MAX]),
@@ -206,7 +287,7 @@ impl Searches {
             continue_search(file, sheet, dual, list, record, terms.allowance)
         });
         let refusal = answer.expect_err("refused papers");
-        self.coverage.count_refused(&refusal);
+        self.coverage.count_refused(&refusal, &record.held());
     }
 
     /// Lends both finders the same and compares all that they can change.
