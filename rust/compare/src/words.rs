@@ -24,8 +24,7 @@ pub fn of_writing(answer: &Result<usize, WriteRefusal>) -> Words {
                 WriteRefusal::File(of_file) => Some(of_file),
                 WriteRefusal::ShortDual => None,
             };
-            let [number, paper, place] = first_slots(refusal.number(), of_file);
-            [number, paper, place, 0, 0, 0, 0, 0]
+            of_refusal(refusal.number(), of_file)
         }
     }
 }
@@ -38,8 +37,7 @@ pub fn of_judging(answer: &Result<Judgement, JudgeRefusal>) -> Words {
                 JudgeRefusal::Papers(of_paper) => Some(of_paper),
                 _ => None,
             };
-            let [number, paper, place] = first_slots(refusal.number(), of_paper);
-            [number, paper, place, 0, 0, 0, 0, 0]
+            of_refusal(refusal.number(), of_paper)
         }
     }
 }
@@ -56,8 +54,7 @@ pub fn of_fresh(answer: &Result<Record, FreshRefusal>) -> Words {
                 FreshRefusal::File(of_file) => Some(of_file),
                 _ => None,
             };
-            let [number, paper, place] = first_slots(refusal.number(), of_file);
-            [number, paper, place, 0, 0, 0, 0, 0]
+            of_refusal(refusal.number(), of_file)
         }
     }
 }
@@ -89,6 +86,12 @@ pub fn of_continuing(answer: &Result<Continued, ContinueRefusal>, given: Record)
             [number, paper, place, position.into(), found.into(), 0, 0, 0]
         }
     }
+}
+
+/// The words of a refusal that tells nothing else.
+fn of_refusal(number: u8, of_paper: Option<&Refusal>) -> Words {
+    let [number, paper, place] = first_slots(number, of_paper);
+    [number, paper, place, 0, 0, 0, 0, 0]
 }
 
 /// The number of a refusal, and the paper and the place where it has them.
