@@ -41,6 +41,11 @@ pub trait Finder: Sync {
 
     fn judge(&self, papers: &Papers, scenario: u32, buffers: &mut Buffers) -> Words;
 
+    /// Whether a search may hold faults.
+    fn holds_faults(&self) -> bool {
+        true
+    }
+
     fn fresh(&self, papers: &Papers, held: Held) -> Words;
 
     fn continue_search(

@@ -3,13 +3,13 @@
 
 use std::ops::RangeInclusive;
 
+use plain::Held;
+
 use crate::columns::{cells, heads};
 use crate::files::seeded::Shape;
-use crate::files::Papers;
-use crate::finders::{Finder, Finders};
-use crate::measuring::{times, work, Agreed};
-use crate::searching::whole;
-use crate::timing::{grouped, microseconds, milliseconds, Times};
+use crate::finders::Finders;
+use crate::searching::whole_times;
+use crate::timing::{grouped, microseconds, milliseconds};
 
 /// The seconds that no search is expected to take, else it is left out.
 const MOST: f64 = 60.0;
@@ -37,7 +37,8 @@ pub fn print(finders: &Finders, shape: &Shape, abducibles: RangeInclusive<u16>) 
             ..*shape
         }
         .papers();
-        let (found, times) = searching(&libraries, &papers);
+        let (outcome, times) = whole_times(&libraries, &papers, Held::NONE);
+        let found = outcome.found.len();
         let seconds = times[0].expect("the time of the library");
         let grown = before.map_or(String::new(), |before| format!("{:.2}", seconds / before));
         println!(
@@ -48,17 +49,4 @@ pub fn print(finders: &Finders, shape: &Shape, abducibles: RangeInclusive<u16>) 
         );
         before = Some(seconds);
     }
-}
-
-/// How many a whole search finds, and the seconds that it takes.
-fn searching(finders: &[&dyn Finder], papers: &Papers) -> (usize, Times) {
-    let agreed = Agreed::new();
-    let times = times(finders, |finder| {
-        let agreed = &agreed;
-        Some(work(finder, move || {
-            agreed.expect(&whole(finder, papers), finder);
-            1
-        }))
-    });
-    (agreed.answer().found.len(), times)
 }

@@ -1,7 +1,8 @@
 //! How fast the finder behind the C boundary settles scenarios beside the
-//! separate one, how that grows with the abducibles, what a call costs beside
-//! what it tries, how long the longest takes, what the worst scenarios cost, and
-//! how much stack it takes. All on one core, in the time of the processor.
+//! separate one, how that grows with the abducibles and falls with held faults,
+//! what a call costs beside what it tries, how long the longest takes, what the
+//! worst scenarios cost, and how much stack it takes. All on one core, in the
+//! time of the processor.
 //!
 //! `bench OTHER.so` measures another build of the library beside this one; see
 //! [`other`].
@@ -11,14 +12,15 @@
 //! * [`searching`] goes through whole searches with any finder;
 //! * [`timing`] times, [`measuring`] does so with several finders, and
 //!   [`columns`] prints the times beside each other;
-//! * [`speed`], [`growth`], [`allowances`], [`longest_calls`], [`one_scenario`]
-//!   and [`stack`] are the tables.
+//! * [`speed`], [`growth`], [`held`], [`allowances`], [`longest_calls`],
+//!   [`one_scenario`] and [`stack`] are the tables.
 
 mod allowances;
 mod columns;
 mod files;
 mod finders;
 mod growth;
+mod held;
 mod longest_calls;
 mod measuring;
 mod one_scenario;
@@ -72,6 +74,7 @@ fn print(finders: &Finders) {
     let files = [&small, &middle, &large, &small_12, &middle_12, &many_finds];
     speed::print(finders, &files, &judged);
     growth::print(finders, &MIDDLE, 6..=13);
+    held::print(finders, &middle);
     allowances::print(finders, &middle);
     longest_calls::print(finders, &[&middle, &large, &middle_12, &many_finds]);
     one_scenario::print(finders);

@@ -2,7 +2,8 @@
 //! `gcc -shared -o OTHER.so -Wl,--whole-archive libfinder_c.a -Wl,--no-whole-archive`
 //!
 //! It is opened by its path, as its functions have the names of those that are
-//! linked.
+//! linked. One from before there was finder_fresh is known by lacking it: its
+//! finder_continue takes no masks.
 
 use std::ffi::{c_char, c_int, c_void, CStr, CString};
 use std::fs::canonicalize;
@@ -51,6 +52,21 @@ type Continue = unsafe extern "C" fn(
     *mut u64,
 );
 
+type ContinueWithoutMasks = unsafe extern "C" fn(
+    *const u8,
+    usize,
+    *const u8,
+    usize,
+    *mut u8,
+    usize,
+    *mut u32,
+    usize,
+    u32,
+    u32,
+    u32,
+    *mut u64,
+);
+
 extern "C" {
     fn dlopen(path: *const c_char, flags: c_int) -> *mut c_void;
     fn dlsym(object: *mut c_void, name: *const c_char) -> *mut c_void;
@@ -63,8 +79,16 @@ pub struct Other {
     rest: Rest,
     write_dual: WriteDual,
     judge: Judge,
-    fresh: Fresh,
-    continue_search: Continue,
+    searching: Searching,
+}
+
+/// How it searches.
+enum Searching {
+    Holding {
+        fresh: Fresh,
+        continue_search: Continue,
+    },
+    WithoutMasks(ContinueWithoutMasks),
 }
 
 impl Other {
@@ -86,8 +110,27 @@ impl Other {
                 rest: function(object, c"finder_rest").map_err(told)?,
                 write_dual: function(object, c"finder_write_dual").map_err(told)?,
                 judge: function(object, c"finder_judge").map_err(told)?,
-                fresh: function(object, c"finder_fresh").map_err(told)?,
-                continue_search: function(object, c"finder_continue").map_err(told)?,
+                searching: Searching::of(object).map_err(told)?,
+            })
+        }
+    }
+}
+
+impl Searching {
+    /// # Safety
+    ///
+    /// The object is open, and is a build of the library.
+    unsafe fn of(object: *mut c_void) -> Result<Self, String> {
+        const CONTINUE: &CStr = c"finder_continue";
+        // SAFETY: the object is open; each function has the type that goes with
+        // its name, that of finder_continue by whether there is finder_fresh.
+        unsafe {
+            Ok(match function(object, c"finder_fresh") {
+                Ok(fresh) => Searching::Holding {
+                    fresh,
+                    continue_search: function(object, CONTINUE)?,
+                },
+                Err(_) => Searching::WithoutMasks(function(object, CONTINUE)?),
             })
         }
     }
@@ -170,18 +213,26 @@ impl Finder for Other {
         out
     }
 
+    fn holds_faults(&self) -> bool {
+        matches!(self.searching, Searching::Holding { .. })
+    }
+
     fn fresh(&self, papers: &Papers, held: Held) -> Words {
         let file = &papers.file;
         let mut out = Words::default();
-        // SAFETY: see above.
-        unsafe {
-            (self.fresh)(
-                file.as_ptr(),
-                file.len(),
-                held.assumed,
-                held.ruled,
-                out.as_mut_ptr(),
-            );
+        match self.searching {
+            // SAFETY: see above.
+            Searching::Holding { fresh, .. } => unsafe {
+                fresh(
+                    file.as_ptr(),
+                    file.len(),
+                    held.assumed,
+                    held.ruled,
+                    out.as_mut_ptr(),
+                );
+            },
+            // There the caller made the record itself: all of it is 0.
+            Searching::WithoutMasks(_) => assert_eq!(held, Held::NONE, "it holds no faults"),
         }
         out
     }
@@ -197,23 +248,43 @@ impl Finder for Other {
         let Buffers { dual, list, .. } = buffers;
         let mut out = Words::default();
         // SAFETY: see above.
-        unsafe {
-            (self.continue_search)(
-                file.as_ptr(),
-                file.len(),
-                sheet.as_ptr(),
-                sheet.len(),
-                dual.as_mut_ptr(),
-                dual.len(),
-                list.as_mut_ptr(),
-                list.len(),
-                record.position,
-                record.found,
-                record.assumed,
-                record.ruled,
-                allowance,
-                out.as_mut_ptr(),
-            );
+        match self.searching {
+            Searching::Holding {
+                continue_search, ..
+            } => unsafe {
+                continue_search(
+                    file.as_ptr(),
+                    file.len(),
+                    sheet.as_ptr(),
+                    sheet.len(),
+                    dual.as_mut_ptr(),
+                    dual.len(),
+                    list.as_mut_ptr(),
+                    list.len(),
+                    record.position,
+                    record.found,
+                    record.assumed,
+                    record.ruled,
+                    allowance,
+                    out.as_mut_ptr(),
+                );
+            },
+            Searching::WithoutMasks(continue_search) => unsafe {
+                continue_search(
+                    file.as_ptr(),
+                    file.len(),
+                    sheet.as_ptr(),
+                    sheet.len(),
+                    dual.as_mut_ptr(),
+                    dual.len(),
+                    list.as_mut_ptr(),
+                    list.len(),
+                    record.position,
+                    record.found,
+                    allowance,
+                    out.as_mut_ptr(),
+                );
+            },
         }
         out
     }
@@ -225,7 +296,7 @@ mod tests {
     use crate::files::seeded::SMALL;
     use crate::finders::Finders;
     use crate::measuring::Agreed;
-    use crate::searching::fresh;
+    use crate::searching::{fresh, whole_holding};
     use std::process::{id, Command};
     use std::{env, fs};
 
@@ -248,11 +319,13 @@ mod tests {
         opened
     }
 
-    #[test]
-    fn another_build_of_the_library_answers() {
-        let whole = ["-Wl,--whole-archive", ARCHIVE, "-Wl,--no-whole-archive"];
-        let other = opened("whole", &whole).expect("a library");
-        let finders = Finders { other: Some(other) };
+    /// The arguments that link all of an archive.
+    fn whole(archive: &str) -> [&str; 3] {
+        ["-Wl,--whole-archive", archive, "-Wl,--no-whole-archive"]
+    }
+
+    /// Both libraries give the same to each call that holds no fault.
+    fn expect_same(finders: &Finders) {
         let papers = SMALL.papers();
         let agreed = Agreed::new();
         for finder in finders.libraries() {
@@ -267,6 +340,59 @@ mod tests {
             agreed.expect(&(words, buffers), finder);
         }
         assert_eq!(finders.libraries().len(), 2);
+    }
+
+    #[test]
+    fn another_build_of_the_library_answers() {
+        let other = opened("whole", &whole(ARCHIVE)).expect("a library");
+        assert!(other.holds_faults());
+        let finders = Finders { other: Some(other) };
+        expect_same(&finders);
+        let papers = SMALL.papers();
+        let held = Held {
+            assumed: 1,
+            ruled: 2,
+        };
+        let agreed = Agreed::new();
+        for finder in finders.libraries() {
+            agreed.expect(&whole_holding(finder, &papers, held), finder);
+        }
+    }
+
+    /// The calls as they were before there were masks, over those that have them.
+    const WITHOUT_MASKS: &str = "
+#include <stddef.h>
+#include <stdint.h>
+void with_masks(const uint8_t *, size_t, const uint8_t *, size_t, uint8_t *, size_t, uint32_t *, size_t,
+                uint32_t, uint32_t, uint16_t, uint16_t, uint32_t, uint64_t *);
+void finder_continue(const uint8_t *file, size_t file_len, const uint8_t *sheet, size_t sheet_len, uint8_t *dual, size_t dual_len,
+                     uint32_t *list, size_t list_len, uint32_t position, uint32_t found, uint32_t allowance, uint64_t *out)
+{
+    with_masks(file, file_len, sheet, sheet_len, dual, dual_len, list, list_len, position, found, 0, 0, allowance, out);
+}
+";
+
+    #[test]
+    fn a_build_from_before_there_was_finder_fresh_answers() {
+        let own = |name| env::temp_dir().join(format!("bench-{}-{name}", id()));
+        let (archive, source) = (own("without.a"), own("without.c"));
+        let [archive_text, source_text] =
+            [&archive, &source].map(|it| it.to_str().expect("a text"));
+        fs::write(&source, WITHOUT_MASKS).expect("a file of its own");
+        let renaming = Command::new("objcopy")
+            .args(["--redefine-sym", "finder_continue=with_masks"])
+            .args(["--localize-symbol", "finder_fresh", ARCHIVE, archive_text])
+            .status();
+        assert!(renaming
+            .expect("objcopy, which comes with the linker")
+            .success());
+        let arguments = [&whole(archive_text)[..], &["-x", "c", source_text]].concat();
+        let other = opened("without", &arguments).expect("a library");
+        for path in [&archive, &source] {
+            fs::remove_file(path).expect("what was written");
+        }
+        assert!(!other.holds_faults());
+        expect_same(&Finders { other: Some(other) });
     }
 
     #[test]

@@ -7,6 +7,8 @@ use plain::Held;
 
 use crate::files::Papers;
 use crate::finders::{Buffers, Finder};
+use crate::measuring::{times, work, Agreed};
+use crate::timing::Times;
 
 /// What came of a whole search.
 #[derive(Clone, Debug, PartialEq, Eq)]
@@ -84,6 +86,22 @@ pub fn whole_holding(finder: &dyn Finder, papers: &Papers, held: Held) -> Outcom
         search.call();
     }
     search.outcome()
+}
+
+/// What comes of a whole search that holds these faults, and the seconds that it
+/// takes. Where there are any, finders that hold none are left out.
+pub fn whole_times(finders: &[&dyn Finder], papers: &Papers, held: Held) -> (Outcome, Times) {
+    let agreed = Agreed::new();
+    let times = times(finders, |finder| {
+        let agreed = &agreed;
+        let run = move || {
+            agreed.expect(&whole_holding(finder, papers, held), finder);
+            1
+        };
+        let can_hold = held == Held::NONE || finder.holds_faults();
+        can_hold.then(|| work(finder, run))
+    });
+    (agreed.answer().clone(), times)
 }
 
 /// The same by the finder without proofs, in one go.
