@@ -1,17 +1,15 @@
 -- The lanes of a search with held faults, from those of the search without them.
 -- Assumes nothing.
-use mathlib.Core.Path.{_≡_, refl, sym, ap, ap₂, _∙_}
+use mathlib.Core.Path.{_≡_, refl, ap₂, _∙_}
 use mathlib.Core.Bool.{Bool, true, false, cond}
 use mathlib.Core.List.{List}
 use Prim.Native.Nat.{ℕ, _+_, _<_, _≤_}
 use native.Mathlib.Omega.{arith}
 use lib.Bits.{bitAnd}
-use lib.ListN.{getD, replicate}
+use lib.ListN.{getD}
 use Rattle.papers.specs.Tests.{_and_}
-use Rattle.papers.proofs.TestLaws.{false-and}
-use Rattle.papers.proofs.Lists.{getD-zeros}
 use Rattle.lanes.specs.Lanes.{inLane}
-use Rattle.lanes.proofs.LaneLaws.{lane-and, lane-none}
+use Rattle.lanes.proofs.LaneLaws.{lane-and}
 use Rattle.steps.specs.Explanations.{Problem}
 use Rattle.stepping.specs.Stepping.{InLanes}
 use Rattle.held.specs.declared.Masks.{Masks}
@@ -46,18 +44,6 @@ module _ (P : Problem) (m : Masks) (k base : ℕ) where
         ∙ rw (judged .abducibles);
   }
 
-  -- Where none agrees, with none judged.
-  pub none-lanes : {word : ℕ} → P .abducibles ≡ k → AgreeingLanes k m base word → word ≡ 0
-      → InLanes (heldProblem P m) k base 0 (replicate 64 0)
-  unfolding heldExplains heldRounds
-  none-lanes {word} e agreeing z = record {
-    abducibles = e;
-    explains = λ l h. lane-none l ∙ rw (e, none l h, false-and);
-    costs = λ l h. getD-zeros 64 l ∙ rw (e, none l h);
-  } where
-    none : (l : ℕ) → l < 64 → agrees k m (base + l) ≡ false
-    none l h = sym (agreeing .at l h) ∙ ap (inLane l) z ∙ lane-none l
-
 -- ---- what a scenario costs at most
 
 cost-le : (agreed : Bool) (n b : ℕ) → n ≤ b → cond agreed n 0 ≤ b
@@ -67,6 +53,3 @@ cost-le false n b h = omega arith
 pub held-cost : {word : ℕ} {rounds after : List ℕ} (b : ℕ) → AgreeingRounds word rounds after → ((l : ℕ) → l < 64 → getD rounds l 0 ≤ b)
     → (l : ℕ) → l < 64 → getD after l 0 ≤ b
 held-cost {word} {rounds} {after} b kept cost l h = rw (kept .at l h) (cost-le (inLane l word) (getD rounds l 0) b (cost l h))
-
-pub none-cost : (b l : ℕ) → getD (replicate 64 0) l 0 ≤ b
-none-cost b l = rw (getD-zeros 64 l) (omega arith)

@@ -4,3 +4,5 @@
 mod AgreeingLaws
 -- The lanes of a search with held faults.
 pub mod HeldLanes
+-- Runs of scenarios that do not agree, fault by fault.
+mod RunLaws

@@ -1,2 +1,6 @@
--- The scenarios that agree with the held faults, as words.
+-- The scenarios that agree with the held faults.
+
+-- Of 64, as words.
 pub mod AgreeingLanes
+-- Runs of those that do not.
+pub mod DisagreeingRuns

@@ -1,4 +1,6 @@
 // Which of 64 scenarios that follow one another agree with the held faults: a lane for each scenario, base + l in lane l.
+pub mod runs;
+
 ghost use mathlib.Core.Path.{_≡_};
 ghost use mathlib.Core.Bool.{cond};
 ghost use Prim.Native.Nat.{_≤_, _<_};

@@ -20,7 +20,12 @@ use Rattle.held.specs.HeldCalls.{spoiltSearch, heldAnswer}
 use Rattle.held.proofs.MaskWords.{tested-passed}
 use Rattle.held.proofs.SearchTests.{spoilt-passed}
 
--- ---- what it costs
+-- ---- what it explains and costs
+
+-- A scenario that does not agree.
+pub held-other : (P : Problem) (m : Masks) (s : ℕ) → agrees (P .abducibles) m s ≡ false → (heldExplains P m s ≡ false) × (heldRounds P m s ≡ 0)
+unfolding heldExplains heldRounds _and_
+held-other P m s e = (rw e, rw e)
 
 -- A bound on the rounds stays one.
 pub held-most : (P : Problem) (m : Masks) (s b : ℕ) → P .rounds s ≤ b → heldRounds P m s ≤ b

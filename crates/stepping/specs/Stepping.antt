@@ -93,9 +93,9 @@ pub record LanesTried (k total explained : ℕ) (rounds : List ℕ) (count : ℕ
 
 -- ---- any number of steps of one problem
 
--- How many scenarios to judge next: up to 64, as many as may still be tried and are there.
-pub record Batch (tried allowance position total size : ℕ) : Type 0 where
-  pub lanes : size ≤ 64
+-- How many scenarios come next: up to `most`, as many as may still be tried and are there.
+pub record Batch (most tried allowance position total size : ℕ) : Type 0 where
+  pub few : size ≤ most
   pub allowed : tried + size ≤ allowance
   pub there : position + size ≤ total
   pub none : size ≡ 0 → (tried ≡ allowance) ⊎ (position ≡ total)

@@ -1,8 +1,9 @@
 -- A call over accepted papers: the problem that they come to, what is told of it, and what its functions require.
 use mathlib.Core.Path.{_≡_}
-use mathlib.Core.Bool.{false}
+use mathlib.Core.Bool.{false, cond}
 use mathlib.Core.List.{List}
 use Prim.Native.Nat.{ℕ, _+_, _^_, _<_, _≤_}
+use lib.Dec.{eqb}
 use lib.ListN.{length, getD}
 use Rattle.papers.specs.declared.Contents.{Contents}
 use Rattle.papers.specs.Program.{Query}
@@ -15,6 +16,7 @@ use Rattle.verdicts.specs.declared.Verdicts.{Verdicts}
 use Rattle.held.specs.declared.Masks.{Masks}
 use Rattle.held.specs.declared.SearchRecord.{SearchRecord}
 use Rattle.held.specs.HeldProblem.{heldProblem}
+use Rattle.agreeing.specs.DisagreeingRuns.{DisagreeingRun}
 use Rattle.stepping.specs.declared.Progress.{Progress}
 use Rattle.steps.specs.Explanations.{Problem}
 use Rattle.steps.specs.declared.Record.{Record}
@@ -53,6 +55,20 @@ reportBy total w m s = record {
   rounds = s .rounds;
   state = stateBy total w (s .position) (s .tried);
 }
+
+-- So many scenarios on, none of which agrees: "counts as tried with zero rounds".
+abbrev pub passedOver : ℕ → Progress → Progress
+passedOver count s = record { position = s .position + count; found = s .found; tried = s .tried + count; rounds = s .rounds }
+
+-- How many scenarios can be tried at once.
+abbrev pub spanOf : ℕ → ℕ
+spanOf run = cond (eqb run 0) 64 run
+
+-- So many scenarios come next and are there: of a run of which none agrees, or, where that is empty, of those that are judged together.
+pub record Next (k : ℕ) (m : Masks) (total run count : ℕ) (before : Progress) : Type 0 where
+  pub passing : DisagreeingRun k m (before .position) run
+  pub few : count ≤ spanOf run
+  pub there : before .position + count ≤ total
 
 -- What 64 scenarios of a problem come to, each of at most 1,026 rounds.
 pub record LanesJudged (P : Problem) (k base : ℕ) (v : Verdicts) : Type 0 where

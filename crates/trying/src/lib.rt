@@ -1,14 +1,16 @@
-// A call over accepted papers: up to 64 scenarios judged at a time, those that agree with the held faults, and tried one by one.
+// A call over accepted papers: runs of scenarios that do not agree with the held faults are passed over, the others judged up to 64 at a time and tried
+// one by one.
 ghost use mathlib.Core.Path.{_≡_};
-ghost use Prim.Native.Nat.{_≤_, _<_};
+ghost use Prim.Native.Nat.{_+_, _≤_, _<_};
 ghost use Rattle.papers.specs.Field.{numbers};
 ghost use Rattle.steps.specs.Continuing.{stateBy};
 ghost use Rattle.stepping.specs.Stepping.{Batch, Tried};
 ghost use Rattle.held.specs.HeldProblem.{heldProblem};
 ghost use Rattle.verdicts.specs.VerdictLanes.{DecodedPapers};
-ghost use Rattle.trying.specs.Trying.{problemIn, reportBy, untried, LanesJudged, Ready, Passed, Continues};
+ghost use Rattle.trying.specs.Trying.{problemIn, reportBy, untried, spanOf, passedOver, LanesJudged, Next, Ready, Passed, Continues};
 use agreeing::agreeing_lanes;
 use agreeing::agreeing_rounds;
+use agreeing::runs::disagreeing_run;
 use held::Masks;
 use held::SearchRecord;
 use papers::Contents;
@@ -28,26 +30,33 @@ pub struct Report {
     pub state: State,
 }
 
-// How many scenarios to judge next.
-fn batch_size(tried: u32, allowance: u32, position: u32, total: u32) -> u32
-    requires { ⌜ (tried ≤ allowance) × (position ≤ total) ⌝ }
-    ensures { λ r. ⌜ Batch tried allowance position total r ⌝ }
+// How many scenarios come next, at most so many.
+fn batch_size(most: u32, tried: u32, allowance: u32, position: u32, total: u32) -> u32
+    requires { ⌜ (0 < most) × (tried ≤ allowance) × (position ≤ total) ⌝ }
+    ensures { λ r. ⌜ Batch most tried allowance position total r ⌝ }
 {
     let allowed = allowance - tried;
     let left = total - position;
     if allowed < left {
-        if allowed < 64 {
+        if allowed < most {
             return allowed;
         }
-        return 64;
+        return most;
     }
-    if left < 64 {
+    if left < most {
         return left;
     }
-    64
+    most
 }
 
-// The scenarios from `base` on, judged together. Where none agrees, none is judged.
+// How many scenarios can be tried at once: all of a run of which none agrees, and else as many as there are lanes.
+fn span(run: u32) -> u32
+    ensures { λ r. ⌜ r ≡ spanOf run ⌝ }
+{
+    if run == 0 { 64 } else { run }
+}
+
+// The scenarios from `base` on, judged together.
 fn judge_agreeing(
     file: &[u8],
     contents: Contents,
@@ -63,12 +72,6 @@ fn judge_agreeing(
     ensures { λ r. ⌜ LanesJudged (heldProblem (problemIn (now (file .entry)) (now (query .entry))) held) (contents .abducibles) base r ⌝ }
 {
     let agreeing = agreeing_lanes(contents.abducibles, base, held);
-    if agreeing == 0 {
-        return Verdicts {
-            explained: 0,
-            rounds: [0; 64],
-        };
-    }
     let verdicts = judge_lanes(
         file,
         contents,
@@ -129,6 +132,59 @@ fn try_batch(
     )
 }
 
+// So many scenarios of which none agrees: they count as tried with zero rounds.
+fn passed_over(count: u32, before: Progress) -> Progress
+    requires { ⌜ (before .position + count < 4294967296) × (before .tried + count < 4294967296) ⌝ }
+    ensures { λ r. ⌜ r ≡ passedOver count before ⌝ }
+{
+    Progress {
+        position: before.position + count,
+        found: before.found,
+        tried: before.tried + count,
+        rounds: before.rounds,
+    }
+}
+
+// The next scenarios: those of a run of which none agrees are passed over, and else they are judged, the first of which agrees.
+fn try_next(
+    file: &[u8],
+    contents: Contents,
+    rules: &[u16],
+    rule_visits: &[u16],
+    entries: &[u16],
+    entry_visits: &[u16],
+    query: &[u16],
+    held: Masks,
+    run: u32,
+    list: &mut [u32],
+    total: u32,
+    count: u32,
+    before: Progress,
+) -> Progress
+    requires { ⌜ Ready (now file) contents (now rules) (now «rule_visits») (now entries) (now «entry_visits») (now query) total count before
+        (now list) × Next (contents .abducibles) held total run count before ⌝ }
+    ensures { λ r. ⌜ Tried (heldProblem (problemIn (now (file .entry)) (now (query .entry))) held) total count before (now (list .entry))
+        r (now (list .exit)) ⌝ }
+{
+    if run > 0 {
+        return passed_over(count, before);
+    }
+    try_batch(
+        file,
+        contents,
+        rules,
+        rule_visits,
+        entries,
+        entry_visits,
+        query,
+        held,
+        list,
+        total,
+        count,
+        before,
+    )
+}
+
 // All that a call tries.
 fn try_all(
     file: &[u8],
@@ -149,11 +205,13 @@ fn try_all(
     ensures { λ r. ⌜ Tried (heldProblem (problemIn (now (file .entry)) (now (query .entry))) held) total allowance before (now (list .entry))
         r (now (list .exit)) ⌝ }
 {
+    let k = contents.abducibles;
     let mut reached = before;
-    let mut count = batch_size(0, allowance, reached.position, total);
+    let mut run = disagreeing_run(k, reached.position, held);
+    let mut count = batch_size(span(run), 0, allowance, reached.position, total);
     while count > 0 {
         let aim = reached.tried + count;
-        reached = try_batch(
+        reached = try_next(
             file,
             contents,
             rules,
@@ -162,6 +220,7 @@ fn try_all(
             entry_visits,
             query,
             held,
+            run,
             list,
             total,
             count,
@@ -170,7 +229,8 @@ fn try_all(
         if reached.tried < aim {
             return reached;
         }
-        count = batch_size(aim, allowance, reached.position, total);
+        run = disagreeing_run(k, reached.position, held);
+        count = batch_size(span(run), aim, allowance, reached.position, total);
     }
     reached
 }

@@ -13,16 +13,16 @@ sub-left : tie.Need-sub-left
 sub-left c = search needs
 
 returns : tie.Need-returns
-returns c = record { lanes = omega arith; allowed = omega arith; there = omega arith; none = λ e. inl (omega arith) }
+returns c = record { few = omega arith; allowed = omega arith; there = omega arith; none = λ e. inl (omega arith) }
 
 returns-2 : tie.Need-returns-2
-returns-2 c = record { lanes = omega arith; allowed = omega arith; there = omega arith; none = λ e. inl (omega arith) }
+returns-2 c = record { few = omega arith; allowed = omega arith; there = omega arith; none = λ e. inl (omega arith) }
 
 returns-3 : tie.Need-returns-3
-returns-3 c = record { lanes = omega arith; allowed = omega arith; there = omega arith; none = λ e. inr (omega arith) }
+returns-3 c = record { few = omega arith; allowed = omega arith; there = omega arith; none = λ e. inr (omega arith) }
 
 returns-4 : tie.Need-returns-4
-returns-4 c = record { lanes = omega arith; allowed = omega arith; there = omega arith; none = λ e. inr (omega arith) }
+returns-4 c = record { few = omega arith; allowed = omega arith; there = omega arith; none = λ e. inr (omega arith) }
 
 pub batch-size-spec : {M : Type 1} → statement M
 batch-size-spec = tie.close (tie.spec sub-allowed sub-left returns returns-2 returns-3 returns-4)

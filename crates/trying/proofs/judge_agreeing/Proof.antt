@@ -1,4 +1,4 @@
--- `trying::judge_agreeing` meets its contract: no lane agrees, or those that do are judged.
+-- `trying::judge_agreeing` meets its contract: all lanes are judged, and kept to those that agree.
 -- Assumes nothing.
 use mathlib.Core.Path.{_≡_}
 use mathlib.Core.List.{List}
@@ -9,7 +9,7 @@ use denote.Ref.{now}
 use Rattle.papers.specs.Reading.{programIn}
 use Rattle.papers.proofs.FileFacts.{abducibles-are, atoms-are, few-atoms, program-valid}
 use Rattle.steps.specs.Explanations.{Problem}
-use Rattle.agreeing.proofs.HeldLanes.{held-lanes, none-lanes, held-cost, none-cost}
+use Rattle.agreeing.proofs.HeldLanes.{held-lanes, held-cost}
 use Rattle.trying.specs.Trying.{problemIn}
 use Rattle.trying.proofs.JudgedLanes.{judged-lanes, judged-cost}
 use Rattle.trying.proofs.judge_agreeing.Statement.{statement}
@@ -37,25 +37,16 @@ agreeing-lanes-requires c κs =
     let s = c .before .before .before .before .before .before in
     omega (arith, abducibles s, program-valid (file s) (s .args .contents) (s .pre .0 .answer) .fewAbducibles)
 
-returns : tie.Need-returns
-returns c =
-    let s = start (c .before) in
-    record {
-      lanes = none-lanes (problem s) (s .args .held) (s .args .contents .abducibles) (s .args .base) (abducibles s) (c .before .agreeing-lanes .ensures)
-          (c .if1 .taken);
-      cost = λ l h. none-cost 1026 l;
-    }
-
 judge-lanes-requires : tie.Need-judge-lanes-requires
 judge-lanes-requires c κs = search needs
 
 agreeing-rounds-requires : tie.Need-agreeing-rounds-requires
 agreeing-rounds-requires c κs = search needs
 
-returns-2 : tie.Need-returns-2
-returns-2 c =
+returns : tie.Need-returns
+returns c =
     let judged = c .before .before .before .before in
-    let agreeing = judged .before .before in
+    let agreeing = judged .before in
     let s = start agreeing in
     let verdicts = judged .judge-lanes .ensures in
     let kept = c .agreeing-rounds .ensures in
@@ -70,7 +61,6 @@ judge-agreeing-spec =
     tie.close
     (tie.spec
     agreeing-lanes-requires
-    returns
     judge-lanes-requires
     agreeing-rounds-requires
-    returns-2)
+    returns)
