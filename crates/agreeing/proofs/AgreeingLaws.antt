@@ -7,14 +7,16 @@ use Prim.Native.Nat.{ℕ, _+_, _/_, _%_, _^_, _<_, _≤_}
 use native.Mathlib.Numerals.{add-one}
 use native.Mathlib.Omega.{arith}
 use lib.Bits.{bitAnd}
+use lib.Dec.{eqb, eqb→eq}
 use lib.ListN.{length, getD, set, replicate, length-set, length-replicate}
 use Rattle.papers.specs.Tests.{_and_, _or_}
-use Rattle.papers.proofs.TestLaws.{and-true, and-assoc}
+use Rattle.papers.proofs.TestLaws.{left, right, passes, and-true, and-assoc}
 use Rattle.lanes.specs.Lanes.{inLane, Written}
 use Rattle.lanes.proofs.LaneLaws.{lane-and, lane-full, written-none, written-more}
 use Rattle.digits.specs.Digits.{DigitLanes}
 use Rattle.held.specs.declared.Masks.{Masks}
 use Rattle.held.specs.Masks.{keeps, agreesAt, agrees}
+use Rattle.held.proofs.HeldLaws.{none-agrees}
 use Rattle.agreeing.specs.AgreeingLanes.{AgreeingLanes, KeptLanes, AgreeingRounds}
 
 -- ---- the lanes kept at one fault
@@ -44,12 +46,23 @@ module _ {base power : ℕ} where
   unfolding keeps _and_ _or_
   kept-free {word} e f = record { at = λ l h. rw (e, f) (sym (and-true (inLane l word))) }
 
+-- ---- no fault
+
+pub free-agrees : (k : ℕ) (m : Masks) (s : ℕ) → (eqb (m .assumed) 0 and eqb (m .ruled) 0) ≡ true → agrees k m s ≡ true
+free-agrees k m s e =
+    let t = passes (eqb (m .assumed) 0 and eqb (m .ruled) 0) e in
+    none-agrees k m s (eqb→eq (m .assumed) 0 (left (eqb (m .assumed) 0) _ t)) (eqb→eq (m .ruled) 0 (right (eqb (m .assumed) 0) _ t))
+
 -- ---- one fault after another
 
 -- Of none: every lane agrees.
 pub agreeing-none : (m : Masks) (base : ℕ) → AgreeingLanes 0 m base 18446744073709551615
 unfolding agrees
 agreeing-none m base = record { at = λ l h. lane-full l h }
+
+-- Where no fault is held too.
+pub agreeing-free : (k : ℕ) (m : Masks) (base : ℕ) → (eqb (m .assumed) 0 and eqb (m .ruled) 0) ≡ true → AgreeingLanes k m base 18446744073709551615
+agreeing-free k m base e = record { at = λ l h. lane-full l h ∙ sym (free-agrees k m (base + l) e) }
 
 -- Of one more.
 pub agreeing-next : {i : ℕ} {m : Masks} {base power word after : ℕ} {one two : Bool} → AgreeingLanes i m base word → power ≡ 3 ^ i

@@ -1,6 +1,6 @@
 -- The lanes of a search with held faults, from those of the search without them.
 -- Assumes nothing.
-use mathlib.Core.Path.{_≡_, refl, ap₂, _∙_}
+use mathlib.Core.Path.{_≡_, refl, sym, ap, ap₂, _∙_}
 use mathlib.Core.Bool.{Bool, true, false, cond}
 use mathlib.Core.List.{List}
 use Prim.Native.Nat.{ℕ, _+_, _<_, _≤_}
@@ -8,8 +8,9 @@ use native.Mathlib.Omega.{arith}
 use lib.Bits.{bitAnd}
 use lib.ListN.{getD}
 use Rattle.papers.specs.Tests.{_and_}
+use Rattle.papers.proofs.TestLaws.{true-and}
 use Rattle.lanes.specs.Lanes.{inLane}
-use Rattle.lanes.proofs.LaneLaws.{lane-and}
+use Rattle.lanes.proofs.LaneLaws.{lane-and, lane-full}
 use Rattle.steps.specs.Explanations.{Problem}
 use Rattle.stepping.specs.Stepping.{InLanes}
 use Rattle.held.specs.declared.Masks.{Masks}
@@ -43,6 +44,18 @@ module _ (P : Problem) (m : Masks) (k base : ℕ) where
         ∙ ap₂ (λ (b : Bool) (n : ℕ). cond b n 0) (agreeing .at l h) (judged .costs l h)
         ∙ rw (judged .abducibles);
   }
+
+  -- Where all agree, as they are.
+  pub all-lanes : {explained word : ℕ} {rounds : List ℕ} → InLanes P k base explained rounds → AgreeingLanes k m base word → word ≡ 18446744073709551615
+      → InLanes (heldProblem P m) k base explained rounds
+  unfolding heldExplains heldRounds
+  all-lanes {explained} {word} judged agreeing full = record {
+    abducibles = judged .abducibles;
+    explains = λ l h. judged .explains l h ∙ rw (judged .abducibles, all l h) (sym (true-and (P .explains (base + l))));
+    costs = λ l h. judged .costs l h ∙ rw (judged .abducibles, all l h);
+  } where
+    all : (l : ℕ) → l < 64 → agrees k m (base + l) ≡ true
+    all l h = sym (agreeing .at l h) ∙ ap (inLane l) full ∙ lane-full l h
 
 -- ---- what a scenario costs at most
 

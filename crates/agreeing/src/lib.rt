@@ -5,11 +5,23 @@ ghost use mathlib.Core.Path.{_≡_};
 ghost use mathlib.Core.Bool.{cond};
 ghost use Prim.Native.Nat.{_≤_, _<_};
 ghost use lib.Bits.{bitAnd};
+ghost use lib.Dec.{eqb};
+ghost use Rattle.papers.specs.Tests.{_and_};
 ghost use Rattle.lanes.specs.Lanes.{inLane};
 ghost use Rattle.agreeing.specs.AgreeingLanes.{AgreeingLanes, KeptLanes, AgreeingRounds};
 use digits::digit_lanes;
 use held::Masks;
 use lanes::words::in_lane;
+
+// Whether no fault is held, so that every scenario agrees.
+pub(crate) fn holds_none(held: Masks) -> bool
+    ensures { λ r. ⌜ r ≡ (eqb (held .assumed) 0 and eqb (held .ruled) 0) ⌝ }
+{
+    if held.assumed == 0 {
+        return held.ruled == 0;
+    }
+    false
+}
 
 // A word kept to some lanes where a test holds.
 fn kept_if(word: u64, lanes: u64, test: bool) -> u64
@@ -40,6 +52,9 @@ pub fn agreeing_lanes(k: usize, base: u64, held: Masks) -> u64
     requires { ⌜ k ≤ 16 ⌝ }
     ensures { λ r. ⌜ AgreeingLanes k held base r ⌝ }
 {
+    if holds_none(held) {
+        return 18446744073709551615;
+    }
     let assumed = held.assumed as u64;
     let ruled = held.ruled as u64;
     let mut word: u64 = 18446744073709551615;

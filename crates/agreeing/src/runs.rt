@@ -5,6 +5,7 @@ ghost use Prim.Native.Nat.{_≤_};
 ghost use Rattle.papers.specs.Tests.{_and_};
 ghost use Rattle.held.specs.Masks.{keeps};
 ghost use Rattle.agreeing.specs.DisagreeingRuns.{DisagreeingRun};
+use crate::holds_none;
 use held::Masks;
 use lanes::words::in_lane;
 
@@ -41,6 +42,9 @@ pub fn disagreeing_run(k: usize, scenario: u32, held: Masks) -> u32
     requires { ⌜ k ≤ 16 ⌝ }
     ensures { λ r. ⌜ DisagreeingRun k held scenario r ⌝ }
 {
+    if holds_none(held) {
+        return 0;
+    }
     let assumed = held.assumed as u64;
     let ruled = held.ruled as u64;
     let mut run: u32 = 0;

@@ -41,10 +41,10 @@ held-most P m s b h = go (agrees (P .abducibles) m s)
 none-passed : (k : ℕ) → masksTested k (masks 0 0) ≡ Passed
 none-passed k = tested-passed k (masks 0 0) (omega arith) (omega arith) refl (zero-div (2 ^ k)) (zero-div (2 ^ k))
 
-none-agrees : (k s : ℕ) → agrees k (masks 0 0) s ≡ true
+pub none-agrees : (k : ℕ) (m : Masks) (s : ℕ) → m .assumed ≡ 0 → m .ruled ≡ 0 → agrees k m s ≡ true
 unfolding agrees agreesAt keeps _and_ _or_
-none-agrees zero s = refl
-none-agrees (suc k) s = rw (none-agrees k s, lane-none k)
+none-agrees zero m s a r = refl
+none-agrees (suc k) m s a r = rw (none-agrees k m s a r, a, r, lane-none k)
 
 -- With both masks 0 the problem is that of the file and the sheet.
 pub held-none : (P : Problem) → heldProblem P (masks 0 0) ≡ P
@@ -52,10 +52,10 @@ unfolding heldExplains heldRounds
 held-none P = λ i. record { abducibles = P .abducibles; explains = λ s. e s i; rounds = λ s. r s i }
   where
     e : (s : ℕ) → (agrees (P .abducibles) (masks 0 0) s and P .explains s) ≡ P .explains s
-    e s = rw (none-agrees (P .abducibles) s) (true-and (P .explains s))
+    e s = rw (none-agrees (P .abducibles) (masks 0 0) s refl refl) (true-and (P .explains s))
 
     r : (s : ℕ) → cond (agrees (P .abducibles) (masks 0 0) s) (P .rounds s) 0 ≡ P .rounds s
-    r s = rw (none-agrees (P .abducibles) s)
+    r s = rw (none-agrees (P .abducibles) (masks 0 0) s refl refl)
 
 -- ---- one call
 

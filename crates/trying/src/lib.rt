@@ -82,6 +82,9 @@ fn judge_agreeing(
         query,
         base,
     );
+    if agreeing == 18446744073709551615 {
+        return verdicts;
+    }
     let explained = verdicts.explained & agreeing;
     let judged = verdicts.rounds;
     let rounds = agreeing_rounds(agreeing, &judged);

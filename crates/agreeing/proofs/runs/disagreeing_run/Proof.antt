@@ -1,12 +1,13 @@
 -- `agreeing::runs::disagreeing_run` meets its contract. The loop's invariant: the faults behind are looked at.
 -- Assumes nothing.
-use mathlib.Core.Path.{_≡_, subst}
+use mathlib.Core.Path.{_≡_, sym, subst, _∙_}
 use Prim.Native.Nat.{ℕ, _-_, _^_, _≤_}
 use native.Mathlib.Nat.{mod-lt}
 use native.Mathlib.Omega.{arith}
 use borrow.Author.Needs.{needs}
 use Rattle.held.specs.Masks.{masks}
 use Rattle.digits.proofs.Powers.{power-fits, power-next}
+use Rattle.agreeing.proofs.AgreeingLaws.{free-agrees}
 use Rattle.agreeing.proofs.RunLaws.{Passing, passing-begun, passing-next}
 use Rattle.agreeing.proofs.runs.disagreeing_run.Statement.{statement}
 use Rattle.agreeing.proofs.runs.disagreeing_run.Tie as tie
@@ -17,6 +18,17 @@ Inv-loop k scenario assumed ruled run₀ power₀ i₀ run power i = (i ≤ k) �
 abbrev μ-loop : tie.MeasureT-loop
 μ-loop k scenario assumed ruled run₀ power₀ i₀ run power i = k - i
 
+holds-none-requires : tie.Need-holds-none-requires Inv-loop μ-loop
+holds-none-requires c κs = search needs
+
+returns : tie.Need-returns Inv-loop μ-loop
+returns c =
+    let a = c .before .before .args in
+    record {
+      none = λ l h. absurd (omega arith);
+      first = λ e. free-agrees (a .k) (a .held) (a .scenario) (sym (c .before .holds-none .ensures) ∙ c .if1 .taken);
+    }
+
 cast-assumed : tie.Need-cast-assumed Inv-loop μ-loop
 cast-assumed c = search needs
 
@@ -24,7 +36,7 @@ cast-ruled : tie.Need-cast-ruled Inv-loop μ-loop
 cast-ruled c = search needs
 
 loop-holds : tie.Need-loop-holds Inv-loop μ-loop
-loop-holds c = let a = c .before .before .args in (omega arith, omega arith, passing-begun (a .k) (a .held) (a .scenario))
+loop-holds c = let a = c .before .before .before .before .args in (omega arith, omega arith, passing-begun (a .k) (a .held) (a .scenario))
 
 div-digit : tie.Need-div-digit Inv-loop μ-loop
 div-digit c = power-fits (c .before .loop .inv .1) (omega arith) .0
@@ -34,7 +46,7 @@ rem-other c = power-fits (c .before .loop .inv .1) (omega arith) .0
 
 sub-other : tie.Need-sub-other Inv-loop μ-loop
 sub-other c =
-    let small = mod-lt (c .before .before .before .before .args .scenario) (power-fits (c .before .loop .inv .1) (omega arith) .0) in
+    let small = mod-lt (c .before .before .before .before .before .before .args .scenario) (power-fits (c .before .loop .inv .1) (omega arith) .0) in
     omega arith
 
 in-lane-requires : tie.Need-in-lane-requires Inv-loop μ-loop
@@ -70,9 +82,9 @@ loop-again c =
           (tested .disagrees .ensures) (c .other-if .ensures),
     )
 
-returns : tie.Need-returns Inv-loop μ-loop
-returns c =
-    let a = c .before .before .before .before .args in
+returns-2 : tie.Need-returns-2 Inv-loop μ-loop
+returns-2 c =
+    let a = c .before .before .before .before .before .before .args in
     let loop = c .before .loop in
     let all : loop .i ≡ a .k = omega arith in
     let passing = subst (λ (n : ℕ). Passing (a .k) n (a .held) (a .scenario) (loop .run)) all (loop .inv .2) in
@@ -84,6 +96,8 @@ disagreeing-run-spec =
     (tie.spec
     Inv-loop
     μ-loop
+    holds-none-requires
+    returns
     cast-assumed
     cast-ruled
     loop-holds
@@ -98,4 +112,4 @@ disagreeing-run-spec =
     add-i
     loop-less
     loop-again
-    returns)
+    returns-2)
