@@ -1,19 +1,21 @@
-//! Fresh searches in random slices, on random programs and with random held
-//! faults, against the definition: all explanations of that search first, then
-//! the minimal ones.
+//! Fresh searches in random slices, on random programs, with no fault held and
+//! with random ones, against the definition: all explanations of that search
+//! first, then the minimal ones.
 
 use plain::{
     continue_search, dual, encode_dual, encode_file, encode_sheet, explanations, judge,
-    minimal_explanations, scenario_count, stopping_point, ContinueRefusal, Continued, Held,
-    Program, Query, Record, Search, State,
+    minimal_explanations, minimal_of, scenario_count, stopping_point, ContinueRefusal, Continued,
+    Held, Program, Query, Record, Search, State,
 };
 use random::seed::seed;
 use random::Random;
 
-use crate::holding::{agrees, at_holding, fresh_holding, masks};
-use crate::programs::{program, query};
+use crate::holding::{agrees, at_holding, fresh_holding, masks, none, Choice};
+use crate::programs::{are_above, program, query};
 
 const PROGRAMS: usize = 3_000;
+/// Searches with held faults over each program.
+const HOLDING: usize = 6;
 
 /// What the random searches reached.
 #[derive(Debug, Default)]
@@ -37,6 +39,22 @@ struct Reached {
     minimal_by_held: usize,
 }
 
+impl Reached {
+    /// What is asked whatever is held.
+    fn assert_above(&self, floor: usize, floor_of_kinds: usize) {
+        let calls = [self.ended, self.full, self.going, self.refused];
+        let entries = [self.added_later, self.not_minimal];
+        let kinds = [self.several_minimal, self.no_room, self.one_scenario];
+        assert!(are_above(floor, &calls), "{self:?}");
+        assert!(are_above(floor, &entries), "{self:?}");
+        assert!(are_above(floor_of_kinds, &kinds), "{self:?}");
+    }
+
+    fn of_held(&self) -> [usize; 3] {
+        [self.held, self.not_agreeing, self.minimal_by_held]
+    }
+}
+
 /// A fresh search and what the definition says of it.
 struct FreshSearch {
     file: Vec<u8>,
@@ -45,8 +63,6 @@ struct FreshSearch {
     dual: Vec<u8>,
     explanations: Vec<u32>,
     minimal: Vec<u32>,
-    /// The minimal explanations where no fault is held.
-    minimal_of_none: Vec<u32>,
     stop: u32,
     scenarios: u32,
     /// The round count of each scenario, judged by a call of its own, and zero
@@ -60,29 +76,29 @@ struct FreshSearch {
 }
 
 impl FreshSearch {
-    fn new(random: &mut Random, program: Program, query: Query) -> Self {
-        let (file, sheet) = (encode_file(&program), encode_sheet(&query));
-        let scenarios = scenario_count(&program);
-        let held = masks(random, &program);
-        let minimal = minimal_explanations(&program, &query, held);
+    fn new(random: &mut Random, program: &Program, query: &Query, held: Held) -> Self {
+        let (file, sheet) = (encode_file(program), encode_sheet(query));
+        let scenarios = scenario_count(program);
+        let minimal = minimal_explanations(program, query, held);
         let length = random.below(minimal.len() + 3);
         let list: Vec<u32> = (0..length).map(|_| random.word() as u32).collect();
         let (mut dual_buffer, mut model) = (vec![0; 60_000], vec![0; 513]);
         let rounds = (0..scenarios).map(|scenario| {
+            if !agrees(held, scenario) {
+                return 0;
+            }
             let judgement = judge(&file, &sheet, scenario, &mut dual_buffer, &mut model);
-            let rounds = judgement.unwrap().rounds;
-            rounds * u64::from(agrees(held, scenario))
+            judgement.unwrap().rounds
         });
         FreshSearch {
             rounds: rounds.collect(),
-            dual: encode_dual(&dual(&program)),
-            explanations: explanations(&program, &query, held),
-            minimal_of_none: minimal_explanations(&program, &query, Held::NONE),
-            stop: stopping_point(&program, &minimal, length),
+            dual: encode_dual(&dual(program)),
+            explanations: explanations(program, query, held),
+            stop: stopping_point(program, &minimal, length),
             scenarios,
             minimal,
-            record: fresh_holding(&program, held),
-            keeping: Search::keeping(program, query),
+            record: fresh_holding(program, held),
+            keeping: Search::keeping(program.clone(), query.clone()),
             list_before: list.clone(),
             list,
             file,
@@ -209,57 +225,54 @@ fn go_through(random: &mut Random, search: &mut FreshSearch, reached: &mut Reach
 
 /// The explanations are those where no fault is held, less those that do not
 /// agree.
-fn compare_explanations(program: &Program, query: &Query, search: &FreshSearch) {
-    let mut expected = explanations(program, query, Held::NONE);
+fn compare_explanations(search: &FreshSearch, of_none: &[u32]) {
+    let mut expected = of_none.to_vec();
     expected.retain(|&scenario| agrees(search.held, scenario));
     assert_eq!(search.explanations, expected);
 }
 
-#[test]
-fn a_fresh_search_in_slices_finds_the_minimal_explanations() {
-    let mut random = Random::new(seed(13));
+fn count_kind(search: &FreshSearch, of_none: &[u32], reached: &mut Reached) {
+    reached.several_minimal += usize::from(search.minimal.len() > 1);
+    reached.no_room += usize::from(search.list.is_empty() && !search.minimal.is_empty());
+    reached.one_scenario += usize::from(search.scenarios == 1);
+    reached.held += usize::from(search.held != Held::NONE);
+    let minimal_of_none = minimal_of(of_none);
+    let is_by_held = |scenario: &&u32| !minimal_of_none.contains(scenario);
+    reached.minimal_by_held += search.minimal.iter().filter(is_by_held).count();
+}
+
+/// Goes through so many searches over each of the random programs, and tells what
+/// was reached.
+fn go_through_programs(mut random: Random, searches: usize, choice: Choice) -> Reached {
     let mut reached = Reached::default();
     for _ in 0..PROGRAMS {
         let program = program(&mut random, 4, 4);
         let query = query(&mut random, &program);
-        let mut search = FreshSearch::new(&mut random, program.clone(), query.clone());
-        compare_explanations(&program, &query, &search);
-        reached.several_minimal += usize::from(search.minimal.len() > 1);
-        reached.no_room += usize::from(search.list.is_empty() && !search.minimal.is_empty());
-        reached.one_scenario += usize::from(search.scenarios == 1);
-        reached.held += usize::from(search.held != Held::NONE);
-        let is_by_held = |scenario: &&u32| !search.minimal_of_none.contains(scenario);
-        reached.minimal_by_held += search.minimal.iter().filter(is_by_held).count();
-        go_through(&mut random, &mut search, &mut reached);
+        let of_none = explanations(&program, &query, Held::NONE);
+        for _ in 0..searches {
+            let held = choice(&mut random, &program);
+            let mut search = FreshSearch::new(&mut random, &program, &query, held);
+            compare_explanations(&search, &of_none);
+            count_kind(&search, &of_none, &mut reached);
+            go_through(&mut random, &mut search, &mut reached);
+        }
     }
-    let Reached {
-        ended,
-        full,
-        going,
-        refused,
-        added_later,
-        not_minimal,
-        several_minimal,
-        no_room,
-        one_scenario,
-        held,
-        not_agreeing,
-        minimal_by_held,
-    } = reached;
-    let often = [ended, full, going, refused, not_minimal, held, not_agreeing];
-    assert!(
-        often.iter().all(|&count| count > PROGRAMS / 20),
-        "{reached:?}"
-    );
-    let less_often = [
-        added_later,
-        several_minimal,
-        no_room,
-        one_scenario,
-        minimal_by_held,
-    ];
-    assert!(
-        less_often.iter().all(|&count| count > PROGRAMS / 100),
-        "{reached:?}"
-    );
+    reached
+}
+
+#[test]
+fn a_fresh_search_in_slices_finds_the_minimal_explanations() {
+    let reached = go_through_programs(Random::new(seed(13)), 1, none);
+    reached.assert_above(PROGRAMS / 20, PROGRAMS / 100);
+    assert_eq!(reached.of_held(), [0; 3], "{reached:?}");
+}
+
+#[test]
+fn a_fresh_search_with_held_faults_in_slices_finds_its_minimal_explanations() {
+    let reached = go_through_programs(Random::new(seed(23)), HOLDING, masks);
+    reached.assert_above(PROGRAMS / 20, PROGRAMS / 5);
+    assert!(are_above(PROGRAMS, &reached.of_held()), "{reached:?}");
+    let often = [reached.full, reached.not_minimal];
+    assert!(are_above(PROGRAMS, &often), "{reached:?}");
+    assert!(reached.held > 4 * PROGRAMS, "{reached:?}");
 }

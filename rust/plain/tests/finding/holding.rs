@@ -39,15 +39,23 @@ pub fn agrees(held: Held, scenario: u32) -> bool {
     has_digit(held.assumed, 1) && has_digit(held.ruled, 2)
 }
 
-/// Random masks that a fresh search over the program accepts, every other time
-/// without a bit.
+/// How a test chooses the faults that a search over the program holds.
+pub type Choice = fn(&mut Random, &Program) -> Held;
+
+/// Holds no fault, and takes no random number.
+pub fn none(_: &mut Random, _: &Program) -> Held {
+    Held::NONE
+}
+
+/// Random masks that a fresh search over the program accepts. One abducible, where
+/// there is any, is held, each other less often.
 pub fn masks(random: &mut Random, program: &Program) -> Held {
     let mut held = Held::NONE;
-    if random.one_in(2) {
-        return held;
-    }
-    for abducible in 0..program.abducibles.len() {
-        match random.below(6) {
+    let abducibles = program.abducibles.len();
+    let sure = random.below(abducibles.max(1));
+    for abducible in 0..abducibles {
+        let choices = if abducible == sure { 2 } else { 10 };
+        match random.below(choices) {
             0 => held.assumed |= 1 << abducible,
             1 => held.ruled |= 1 << abducible,
             _ => {}

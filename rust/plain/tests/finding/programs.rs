@@ -1,4 +1,4 @@
-//! Random programs and queries.
+//! Random programs and queries, and floors of what is reached with them.
 
 use plain::{Atom, Literal, ObjectiveLiteral, Program, Query, Rule};
 use random::Random;
@@ -63,6 +63,11 @@ pub fn query(random: &mut Random, program: &Program) -> Query {
         literals = vec![Literal(2 * head.0 + random.below(2) as u16)];
     }
     Query { literals }
+}
+
+/// Whether each count is above the floor.
+pub fn are_above(floor: usize, counts: &[usize]) -> bool {
+    counts.iter().all(|&count| count > floor)
 }
 
 /// At most so many literals, less often none. Every other one, about, is of an

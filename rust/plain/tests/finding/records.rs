@@ -1,5 +1,5 @@
-//! Continuing from random records with random lists and masks, not reached from a
-//! fresh search, and test 14 on them.
+//! Continuing from random records with random lists, not reached from a fresh
+//! search, with no fault held and with random masks, and test 14 on them.
 //!
 //! What the general rule adds is found here all at once: of the agreeing
 //! explanations at or after the position that contain no listed entry's
@@ -13,11 +13,13 @@ use plain::{
 use random::seed::seed;
 use random::Random;
 
-use crate::holding::{agrees, at_holding, masks};
-use crate::programs::{program, query};
+use crate::holding::{agrees, at_holding, masks, none, Choice};
+use crate::programs::{are_above, program, query};
 
 const PROGRAMS: usize = 2_000;
 const RECORDS: usize = 30;
+/// Records with masks: fewer entries are added to these.
+const WITH_MASKS: usize = 60;
 
 /// What the random records reached.
 #[derive(Debug, Default)]
@@ -35,6 +37,21 @@ struct Reached {
     not_minimal: usize,
     /// Minimal explanations tried and not added.
     left_out: usize,
+}
+
+impl Reached {
+    /// What is asked whatever is held.
+    fn assert_above(&self, floor: usize, floor_of_left_out: usize) {
+        let calls = [self.spoilt, self.ended, self.full, self.going];
+        let entries = [self.added, self.not_minimal];
+        assert!(are_above(floor, &calls), "{self:?}");
+        assert!(are_above(floor, &entries), "{self:?}");
+        assert!(self.left_out > floor_of_left_out, "{self:?}");
+    }
+
+    fn of_masks(&self) -> [usize; 2] {
+        [self.spoilt_by_masks, self.added_holding]
+    }
 }
 
 /// Test 14 in other words, without its masks.
@@ -134,7 +151,7 @@ fn any_masks(random: &mut Random, program: &Program) -> Held {
     }
 }
 
-fn compare(random: &mut Random, search: &mut Search, reached: &mut Reached) {
+fn compare(random: &mut Random, search: &mut Search, choice: Choice, reached: &mut Reached) {
     let scenarios = scenario_count(search.program());
     let number = |random: &mut Random| random.below(scenarios as usize + 2) as u32;
     let length = random.below(5);
@@ -144,7 +161,7 @@ fn compare(random: &mut Random, search: &mut Search, reached: &mut Reached) {
         list.sort_unstable();
         list.dedup();
     }
-    let held = any_masks(random, search.program());
+    let held = choice(random, search.program());
     let position = number(random).max(number(random));
     let record = at_holding(position, found as u32, held);
     let allowance = random.pick(&[0, 1, 2, 3, 5, 9, 20, u32::MAX]);
@@ -170,39 +187,31 @@ fn compare(random: &mut Random, search: &mut Search, reached: &mut Reached) {
     count(search, &continued, &added, reached);
 }
 
-#[test]
-fn any_record_goes_by_the_general_rule() {
-    let mut random = Random::new(seed(19));
+/// Goes on from so many records over each of the random programs, and tells what
+/// was reached.
+fn compare_all(mut random: Random, records: usize, choice: Choice) -> Reached {
     let mut reached = Reached::default();
     for _ in 0..PROGRAMS {
         let program = program(&mut random, 4, 4);
         let query = query(&mut random, &program);
         let mut search = Search::keeping(program, query);
-        for _ in 0..RECORDS {
-            compare(&mut random, &mut search, &mut reached);
+        for _ in 0..records {
+            compare(&mut random, &mut search, choice, &mut reached);
         }
     }
-    let Reached {
-        spoilt,
-        spoilt_by_masks,
-        ended,
-        full,
-        going,
-        added,
-        added_holding,
-        not_minimal,
-        left_out,
-    } = reached;
-    let counts = [
-        spoilt,
-        spoilt_by_masks,
-        ended,
-        full,
-        going,
-        added,
-        not_minimal,
-    ];
-    assert!(counts.iter().all(|&count| count > PROGRAMS), "{reached:?}");
-    assert!(added_holding > PROGRAMS / 2, "{reached:?}");
-    assert!(left_out > PROGRAMS / 10, "{reached:?}");
+    reached
+}
+
+#[test]
+fn any_record_goes_by_the_general_rule() {
+    let reached = compare_all(Random::new(seed(19)), RECORDS, none);
+    reached.assert_above(PROGRAMS, PROGRAMS / 10);
+    assert_eq!(reached.of_masks(), [0; 2], "{reached:?}");
+}
+
+#[test]
+fn any_record_with_held_faults_goes_by_the_general_rule() {
+    let reached = compare_all(Random::new(seed(29)), WITH_MASKS, any_masks);
+    reached.assert_above(PROGRAMS, PROGRAMS / 5);
+    assert!(are_above(2 * PROGRAMS, &reached.of_masks()), "{reached:?}");
 }
