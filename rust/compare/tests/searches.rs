@@ -46,8 +46,11 @@ fn main() {
     };
     for _ in 0..FILES {
         let mut papers = Papers::searchable(&mut random);
-        fresh_search(&mut random, &mut papers, &mut searches);
-        for _ in 0..4 {
+        for held in [Held::NONE, masks::sound(&mut random, papers.abducibles)] {
+            fresh_search(&mut random, &mut papers, &mut searches, held);
+        }
+        // Half of them hold no fault.
+        for _ in 0..8 {
             any_search(&mut random, &mut papers, &mut searches);
         }
     }
@@ -75,8 +78,7 @@ fn main() {
 
 /// Goes through a fresh search, in pieces and at once: both must come to what
 /// the definition says.
-fn fresh_search(random: &mut Random, papers: &mut Papers, searches: &mut Searches) {
-    let held = papers.some_held(random);
+fn fresh_search(random: &mut Random, papers: &mut Papers, searches: &mut Searches, held: Held) {
     let length = papers.a_list_length(random, held);
     let patterns = &mut searches.comparison.patterns;
     let list = patterns.list(length, papers.scenarios);
