@@ -13,7 +13,7 @@ fn backing_word(trues: &[u64; 513], falses: &[u64; 513], atoms: u16, o: Objectiv
     ensures { λ r. ⌜ r ≡ backingWord atoms (now (trues .entry)) (now (falses .entry)) (o .0) ⌝ }
 {
     let at = o.0;
-    let conjugate = conjugates::explicit_conjugate(o, atoms);
+    let conjugate = conjugates::explicit_conjugate_number(o, atoms);
     let Conjugate::Is(other) = conjugate else {
         return falses[at];
     };

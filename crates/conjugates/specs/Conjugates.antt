@@ -1,7 +1,7 @@
--- The answers that falsum, and every number past it, has none of: document 01's value for each case.
+-- The answers that falsum, and every number past the listed ones, has none of: document 01's value for each case.
 use Prim.Native.Nat.{ℕ}
 use mathlib.Core.Bool.{cond}
-use Rattle.literals.specs.Numbering.{atomNumber, explicitConjugate, literal, defaultNegation, listed}
+use Rattle.literals.specs.Numbering.{atomNumber, explicitConjugate, literal, defaultNegation, defaultConjugate, listed, literalListed}
 use Rattle.conjugates.specs.declared.AtomOf.{AtomOf}
 use Rattle.conjugates.specs.declared.AtomOf.the-variants as atom
 use Rattle.conjugates.specs.declared.Conjugate.{Conjugate}
@@ -24,3 +24,7 @@ literalOf n o = cond (listed n o) (literal-of.Is (record { 0 = literal o })) lit
 -- literal 2o+1 is not(o); falsum has "no literal in a file"
 abbrev pub defaultNegationOf : ℕ → ℕ → LiteralOf
 defaultNegationOf n o = cond (listed n o) (literal-of.Is (record { 0 = defaultNegation o })) literal-of.Nothing
+
+-- not added or removed; a number that is not below 4n is no literal
+abbrev pub defaultConjugateOf : ℕ → ℕ → LiteralOf
+defaultConjugateOf n l = cond (literalListed n l) (literal-of.Is (record { 0 = defaultConjugate l })) literal-of.Nothing

@@ -1,11 +1,18 @@
-// Document 01, Numberings: the two conjugates, and what else an objective literal has unless it is falsum. No function has a `requires`.
+// Document 000, section 2.1: the two conjugates. Document 01, Numberings: their numbers, and what else an objective literal has unless it is falsum.
+// No function has a `requires`.
 ghost use mathlib.Core.Path.{_≡_};
-ghost use Rattle.literals.specs.Numbering.{otherOfPair, defaultConjugate};
-ghost use Rattle.conjugates.specs.Conjugates.{atomOf, conjugateOf, defaultNegationOf, literalOf};
+ghost use Rattle.literals.specs.Section21.{conjD, conjE};
+ghost use Rattle.conjugates.specs.Conjugates.{atomOf, conjugateOf, defaultConjugateOf, defaultNegationOf, literalOf};
 use literals::Atom;
 use literals::Literal;
 use literals::Objective;
+use literals::forms::Form;
+use literals::forms::FormOf;
+use literals::forms::form_of;
+use literals::forms::literal_number;
+use literals::forms::objective_form;
 use literals::is_listed;
+use literals::objective_of;
 
 // What falsum has none of is answered by `Nothing`, and so is a number past it.
 pub enum AtomOf {
@@ -33,17 +40,6 @@ pub fn atom_of(o: Objective, atoms: u16) -> AtomOf
     }
 }
 
-// An atom for its explicit negation, and back.
-pub fn explicit_conjugate(o: Objective, atoms: u16) -> Conjugate
-    ensures { λ r. ⌜ r ≡ conjugateOf atoms (o .0) ⌝ }
-{
-    if is_listed(o, atoms) {
-        Conjugate::Is(Objective(other_of_pair(o.0)))
-    } else {
-        Conjugate::Nothing
-    }
-}
-
 // The objective literal itself, as a literal.
 pub fn literal_of(o: Objective, atoms: u16) -> LiteralOf
     ensures { λ r. ⌜ r ≡ literalOf atoms (o .0) ⌝ }
@@ -66,16 +62,53 @@ pub fn default_negation(o: Objective, atoms: u16) -> LiteralOf
     }
 }
 
-// The literal with its not added or removed.
-pub fn default_conjugate(l: Literal) -> Literal
-    ensures { λ r. ⌜ r .0 ≡ defaultConjugate (l .0) ⌝ }
+// conj_E: an atom for its explicit negation, and back. A default negation has none.
+pub fn explicit_conjugate(l: Form) -> FormOf
+    ensures { λ r. ⌜ r ≡ conjE l ⌝ }
 {
-    Literal(other_of_pair(l.0))
+    match l {
+        Form::Atom(a) => FormOf::Is(Form::NegatedAtom(a)),
+        Form::NegatedAtom(a) => FormOf::Is(Form::Atom(a)),
+        Form::NotAtom(_) => FormOf::Nothing,
+        Form::NotNegatedAtom(_) => FormOf::Nothing,
+    }
 }
 
-// The one of 2k and 2k+1 that `x` is not. The greatest number is odd, so the sum fits.
-fn other_of_pair(x: usize) -> usize
-    ensures { λ r. ⌜ r ≡ otherOfPair x ⌝ }
+// conj_D: not added or removed.
+pub fn default_conjugate(l: Form) -> Form
+    ensures { λ r. ⌜ r ≡ conjD l ⌝ }
 {
-    if x % 2 == 0 { x + 1 } else { x - 1 }
+    match l {
+        Form::Atom(a) => Form::NotAtom(a),
+        Form::NegatedAtom(a) => Form::NotNegatedAtom(a),
+        Form::NotAtom(a) => Form::Atom(a),
+        Form::NotNegatedAtom(a) => Form::NegatedAtom(a),
+    }
+}
+
+// The explicit conjugate, by the numbers of objective literals.
+pub fn explicit_conjugate_number(o: Objective, atoms: u16) -> Conjugate
+    ensures { λ r. ⌜ r ≡ conjugateOf atoms (o .0) ⌝ }
+{
+    let form = objective_form(o, atoms);
+    let FormOf::Is(objective) = form else {
+        return Conjugate::Nothing;
+    };
+    let conjugate = explicit_conjugate(objective);
+    match conjugate {
+        FormOf::Is(other) => Conjugate::Is(objective_of(literal_number(other))),
+        FormOf::Nothing => Conjugate::Nothing,
+    }
+}
+
+// The default conjugate, by the numbers of literals.
+pub fn default_conjugate_number(l: Literal, atoms: u16) -> LiteralOf
+    ensures { λ r. ⌜ r ≡ defaultConjugateOf atoms (l .0) ⌝ }
+{
+    let form = form_of(l, atoms);
+    let FormOf::Is(literal) = form else {
+        return LiteralOf::Nothing;
+    };
+    let conjugate = default_conjugate(literal);
+    LiteralOf::Is(literal_number(conjugate))
 }

@@ -9,7 +9,9 @@ ghost use Rattle.papers.specs.Encoding.{encodeNumbers, encodeField};
 ghost use Rattle.dual.specs.Bytes.{filled};
 ghost use Rattle.dual_writer.specs.Chains.{Chain, foldsAt};
 use crate::chains::next_fold;
+use conjugates::LiteralOf;
 use literals::Fold;
+use literals::Literal;
 use literals::Objective;
 use numbered::literal_at;
 
@@ -32,6 +34,18 @@ fn put_heading(buffer: &mut [u8], tag: u8, size: usize, number: usize)
     put_number(buffer, 3, number);
 }
 
+// The default conjugate of a literal that was read: two bytes, so it is one of 16,384 atoms, whatever the file's count.
+fn conjugate_of(l: Literal) -> Literal
+    requires { ⌜ l .0 < 65536 ⌝ }
+    ensures { λ r. ⌜ (r .0 ≡ defaultConjugate (l .0)) × (r .0 < 65536) ⌝ }
+{
+    let conjugate = conjugates::default_conjugate_number(l, 16384);
+    let LiteralOf::Is(other) = conjugate else {
+        return l;
+    };
+    other
+}
+
 // 09: the fold number, and the default conjugate of each body literal.
 pub(crate) fn write_fold(buffer: &mut [u8], fold: Fold, body: &[u8]) -> usize
     requires { ⌜
@@ -49,7 +63,7 @@ pub(crate) fn write_fold(buffer: &mut [u8], fold: Fold, body: &[u8]) -> usize
     let count = size / 2;
     let mut i: usize = 0;
     while i < count {
-        let conjugate = conjugates::default_conjugate(literal_at(body, 2 * i));
+        let conjugate = conjugate_of(literal_at(body, 2 * i));
         put_number(buffer, 5 + 2 * i, conjugate.0);
         i += 1;
     }

@@ -1,6 +1,8 @@
 // Document 01, Numberings: a type for each of the four, so that a number of one cannot stand where another is due.
 // Atoms and rules are counted in 16 bits, so that every number made of them fits a word and no function has a `requires`. The other three are as
 // wide as an index, so that each is one where its own array is read.
+pub mod forms;
+
 ghost use mathlib.Core.Path.{_≡_};
 ghost use Rattle.literals.specs.Numbering.{positive, negative, explicitlyNegated, objectiveNumber, defaultNegated};
 ghost use Rattle.literals.specs.Numbering.{falsum, listed, literalListed, judged, foldOfRule, foldOfIntegrity};

@@ -9,7 +9,7 @@ use borrow.Author.Tests.{eqb-true, eqb-false, eq-eqb, ne-eqb}
 use lib.Dec.{eqb}
 use lib.ListN.{length, getD}
 use Rattle.literals.specs.Numbering.{defaultConjugate, defaultNegated, objectiveNumber, judged}
-use Rattle.literals.proofs.NumberingLaws.{pair-sum, default-same-objective}
+use Rattle.literals.proofs.NumberingLaws.{default-sum, default-same-objective}
 use Rattle.papers.specs.Program.{Rule, Program, allRules, noRule}
 use Rattle.papers.specs.Content.{isAmong}
 use Rattle.papers.specs.Valid.{All, All.none as nothing, All.each as each, ValidRule, Valid}
@@ -29,11 +29,11 @@ pub conjugate-negated : (l : ℕ) → defaultNegated (defaultConjugate l) ≡ no
 conjugate-negated l = go (defaultNegated l) refl where
   go : (b : Bool) → defaultNegated l ≡ b → defaultNegated (defaultConjugate l) ≡ not b
   go true e =
-      let sum = pair-sum l in
+      let sum = default-sum l in
       let odd = eqb-true (l % 2) 1 e in
       ne-eqb (defaultConjugate l % 2) 1 (λ q. omega arith)
   go false e =
-      let sum = pair-sum l in
+      let sum = default-sum l in
       let even = eqb-false (l % 2) 1 e in
       eq-eqb (defaultConjugate l % 2) 1 (omega arith)
 

@@ -1,5 +1,5 @@
 -- What has to unfold for a model to be computed: a theorem says `unfolding modelling`.
-use Rattle.literals.specs.Numbering.{otherOfPair}
+use Rattle.literals.specs.ComputingConjugates.{conjugating}
 use Rattle.papers.specs.Program.{allRules}
 use Rattle.papers.specs.Content.{isAmong}
 use Rattle.dual.specs.Table.{foldsFrom, foldsOf, isEmpty, isFact, hasEntry, foldField, entry, entriesFrom, dual}
@@ -29,12 +29,12 @@ sequence = tt
 
 -- the model, its bytes and its verdict,
 unfoldable pub modelling : Unit {0}
-unfolding sets scenarios sequence otherOfPair allRules model valueByte valueBytes modelBytes queryLiteralHolds queryHolds explainsBy explains
+unfolding sets scenarios sequence conjugating allRules model valueByte valueBytes modelBytes queryLiteralHolds queryHolds explainsBy explains
 modelling = tt
 
 -- the dual's fields,
 unfoldable pub fields : Unit {0}
-unfolding otherOfPair isAmong allRules foldsFrom foldsOf isEmpty isFact hasEntry foldField entry entriesFrom dual
+unfolding conjugating isAmong allRules foldsFrom foldsOf isEmpty isFact hasEntry foldField entry entriesFrom dual
 fields = tt
 
 -- and falsity from them.

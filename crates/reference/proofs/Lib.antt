@@ -8,5 +8,7 @@ pub mod Models
 pub mod Searches
 -- Whole searches with held faults.
 pub mod HeldSearches
+-- The four forms of a literal and their conjugates.
+pub mod FourForms
 -- The table of the theorems.
 pub mod ReferenceCalls

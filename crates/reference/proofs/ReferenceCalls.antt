@@ -2,7 +2,7 @@
 -- Assumes nothing.
 use mathlib.Core.Path.{_≡_}
 use mathlib.Core.Bool.{true, false}
-use mathlib.Core.List.{[], _∷_}
+use mathlib.Core.List.{[], _∷_, map}
 use lib.ListN.{length, getD}
 use Rattle.papers.specs.Outcome.{accepted}
 use Rattle.papers.specs.Told.{tells, refusedBy}
@@ -10,7 +10,10 @@ use Rattle.papers.specs.Reading.{readFile}
 use Rattle.papers.specs.Encoding.{encodeFile}
 use Rattle.dual.specs.Table.{dual}
 use Rattle.dual.specs.TableEncoding.{encodeDual}
-use Rattle.literals.specs.Numbering.{falsum}
+use Rattle.literals.specs.declared.forms.Form.the-variants as form
+use Rattle.literals.specs.declared.forms.FormOf.the-variants.{Is, Nothing}
+use Rattle.literals.specs.Section21.{conjE}
+use Rattle.literals.specs.Numbering.{falsum, formOf, explicitConjugate, defaultConjugate}
 use Rattle.model.specs.Model.{modelBytes, rounds, explains}
 use Rattle.steps.specs.Explanations.{stop}
 use Rattle.steps.specs.Continuing.{fresh, continue}
@@ -28,6 +31,7 @@ use Rattle.reference.proofs.Searches.{Read, whole, example32-read, exam
 use Rattle.reference.proofs.Searches.{figureP4-read, figureP4-found, figureQ8-read, figureQ8-found, figureQ11-read, figureQ11-found}
 use Rattle.reference.proofs.HeldSearches.{assumed-begins, assumed-found, ruled-found, ruled-stop, both-ruled-found, shared-refused}
 use Rattle.reference.proofs.HeldSearches.{unlisted-refused}
+use Rattle.reference.proofs.FourForms.{p1, forms-of-p1, default-of-p1, explicit-of-p1, explicit-numbers}
 
 pub record Calls : Type 0 where
   -- "Example 2.1: a, b, c = 0, 1, 2; c :- not b; b :- a; -b; a :- not a. Model 0 2 2 1 1 2 2, 3 rounds, dual 60 bytes."
@@ -76,6 +80,11 @@ pub record Calls : Type 0 where
   -- "15 when the masks share a bit, then 16 when a bit at or above k is set."
   pub shared-refused : freshTold (readFile (encodeFile (figureP4 .program))) (masks 5 4) ≡ refusedBy 15
   pub unlisted-refused : freshTold (readFile (encodeFile (figureP4 .program))) (masks 5 2) ≡ refusedBy 16
+  -- Card 2. The literals of atom 1, p1, not p1, -p1 and not -p1: "The default conjugate takes all four, the explicit one only the first two."
+  pub forms-of-p1 : map formOf (4 ∷ 5 ∷ 6 ∷ 7 ∷ []) ≡ form.Atom p1 ∷ form.NotAtom p1 ∷ form.NegatedAtom p1 ∷ form.NotNegatedAtom p1 ∷ []
+  pub default-of-p1 : map defaultConjugate (4 ∷ 5 ∷ 6 ∷ 7 ∷ []) ≡ 5 ∷ 4 ∷ 7 ∷ 6 ∷ []
+  pub explicit-of-p1 : map (λ l. conjE (formOf l)) (4 ∷ 5 ∷ 6 ∷ 7 ∷ []) ≡ Is (form.NegatedAtom p1) ∷ Nothing ∷ Is (form.Atom p1) ∷ Nothing ∷ []
+  pub explicit-numbers : map explicitConjugate (2 ∷ 3 ∷ []) ≡ 3 ∷ 2 ∷ []
 
 pub calls : Calls
 calls = record {
@@ -112,4 +121,8 @@ calls = record {
   both-ruled-found = both-ruled-found;
   shared-refused = shared-refused;
   unlisted-refused = unlisted-refused;
+  forms-of-p1 = forms-of-p1;
+  default-of-p1 = default-of-p1;
+  explicit-of-p1 = explicit-of-p1;
+  explicit-numbers = explicit-numbers;
 }

@@ -24,15 +24,15 @@ module _ (c : tie.After-known-told) where
   tells : (start .args .o .0 < falsum (start .args .atoms)) × (c .before .conjugate .given .0 .0 .0 ≡ explicitConjugate (start .args .o .0))
   tells =
       conjugate-tells (start .args .atoms) (start .args .o .0)
-      (sym (c .before .before .before .explicit-conjugate .ensures) ∙ c .before .conjugate .given .1)
+      (sym (c .before .before .before .explicit-conjugate-number .ensures) ∙ c .before .conjugate .given .1)
 
   few : c .before .conjugate .given .0 .0 .0 < 513
   few =
       let a = start .args in
       omega (arith, tells .1, explicit-below (a .atoms) (a .o .0) (tells .0), start .pre .1)
 
-explicit-conjugate-requires : tie.Need-explicit-conjugate-requires
-explicit-conjugate-requires c κs = search needs
+explicit-conjugate-number-requires : tie.Need-explicit-conjugate-number-requires
+explicit-conjugate-number-requires c κs = search needs
 
 enum-known-conjugate : tie.Need-enum-known-conjugate
 enum-known-conjugate c = search needs
@@ -50,7 +50,7 @@ returns : tie.Need-returns
 unfolding backingWord
 returns c =
     let a = c .before .before .before .before .args in
-    let told = sym (c .before .before .before .explicit-conjugate .ensures) ∙ c .before .enum-told .given .1 in
+    let told = sym (c .before .before .before .explicit-conjugate-number .ensures) ∙ c .before .enum-told .given .1 in
     rw (le-ltb (a .o .0) _ (no-conjugate-tells (a .atoms) (a .o .0) told))
 
 mul-result-2 : tie.Need-mul-result-2
@@ -76,7 +76,7 @@ pub backing-word-spec : {M : Type 1} → statement M
 backing-word-spec =
     tie.close
     (tie.spec
-    explicit-conjugate-requires
+    explicit-conjugate-number-requires
     enum-known-conjugate
     enum-told
     mul-result

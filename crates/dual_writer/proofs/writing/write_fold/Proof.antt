@@ -3,12 +3,11 @@
 use borrow.Author.Needs.{needs}
 use mathlib.Core.Path.{_≡_, refl, _∙_}
 use mathlib.Core.List.{List, map}
-use Prim.Native.Nat.{ℕ, _+_, _-_, _≤_, _<_}
+use Prim.Native.Nat.{ℕ, _+_, _-_, _≤_}
 use native.Mathlib.Omega.{arith}
 use denote.Ref.{now}
 use lib.ListN.{length, length-map}
 use Rattle.literals.specs.Numbering.{defaultConjugate}
-use Rattle.literals.proofs.NumberingLaws.{pair-sum}
 use Rattle.papers.specs.Field.{numbers}
 use Rattle.dual_writer.proofs.WritingLaws.{field-written, Conjugated, conjugated-none, conjugated-more, conjugated-done}
 use Rattle.dual_writer.proofs.writing.write_fold.Statement.{statement}
@@ -35,7 +34,7 @@ module _ (c : tie.After-put-heading Inv-loop μ-loop) where
 
 -- ---- once a literal's conjugate is at hand
 
-module _ (c : tie.After-default-conjugate Inv-loop μ-loop) where
+module _ (c : tie.After-conjugate-of Inv-loop μ-loop) where
   abbrev literal : tie.After-literal-at Inv-loop μ-loop
   literal = c .before
 
@@ -44,9 +43,6 @@ module _ (c : tie.After-default-conjugate Inv-loop μ-loop) where
 
   abbrev heading : tie.After-put-heading Inv-loop μ-loop
   heading = head .before .before .before
-
-  small : c .default-conjugate .result .0 < 65536
-  small = omega (arith, c .default-conjugate .ensures, pair-sum (literal .literal-at .result .0), literal .literal-at .ensures .1)
 
 add-put-heading : tie.Need-add-put-heading Inv-loop μ-loop
 add-put-heading c = search needs
@@ -65,8 +61,8 @@ mul-literal-at c = search needs
 literal-at-requires : tie.Need-literal-at-requires Inv-loop μ-loop
 literal-at-requires c κs = search needs
 
-default-conjugate-requires : tie.Need-default-conjugate-requires Inv-loop μ-loop
-default-conjugate-requires c κs = search needs
+conjugate-of-requires : tie.Need-conjugate-of-requires Inv-loop μ-loop
+conjugate-of-requires c κs = c .literal-at .ensures .1
 
 mul-put-number : tie.Need-mul-put-number Inv-loop μ-loop
 mul-put-number c = search needs
@@ -77,7 +73,7 @@ add-put-number c = search needs
 put-number-requires : tie.Need-put-number-requires Inv-loop μ-loop
 put-number-requires c κs =
     let w = c .before in
-    (omega (arith, head w .loop .inv .1 .1, heading w .put-heading .kept .0), omega (arith, small w))
+    (omega (arith, head w .loop .inv .1 .1, heading w .put-heading .kept .0), w .conjugate-of .ensures .1)
 
 add-i : tie.Need-add-i Inv-loop μ-loop
 add-i c = search needs
@@ -95,7 +91,7 @@ loop-again c =
       (
         rw (put .ensures)
             (conjugated-more _ _ _ _ (at .inv .1 .0) (fits h) (literal w .before .loop-test .taken) (literal w .literal-at .ensures .0)
-            (w .default-conjugate .ensures)),
+            (w .conjugate-of .ensures .0)),
         put .kept .0 ∙ at .inv .1 .1,
       ),
     )
@@ -128,7 +124,7 @@ write-fold-spec =
     loop-holds
     mul-literal-at
     literal-at-requires
-    default-conjugate-requires
+    conjugate-of-requires
     mul-put-number
     add-put-number
     put-number-requires
