@@ -3,7 +3,7 @@
 
 use plain::dual::LONGEST_DUAL;
 use plain::field::{MOST_ABDUCIBLES, MOST_ATOMS, MOST_INTEGRITY_RULES, MOST_LITERALS, MOST_RULES};
-use plain::{dual, encode_dual, Dual, Entry, Literal, ObjectiveLiteral, Program, Refusal};
+use plain::{dual, encode_dual, Dual, Entry, Form, Literal, ObjectiveLiteral, Program, Refusal};
 
 use crate::tally::{Counted, Feature, Numbers, Tally, OF_FILE};
 
@@ -29,6 +29,14 @@ impl Accepted {
         self.program
             .folds()
             .any(|(_, head, body)| holds(head, body))
+    }
+
+    /// Whether a 09 field lists such a literal.
+    fn lists(&self, is_it: impl Fn(Form) -> bool) -> bool {
+        self.has_entry(|entry| {
+            let mut listed = entry.foldings.iter().flat_map(|it| &it.conjugates);
+            listed.any(|literal| is_it(literal.form()))
+        })
     }
 
     fn has_entry(&self, holds: impl Fn(&Entry) -> bool) -> bool {
@@ -69,6 +77,18 @@ const ACCEPTED: &[Feature<Accepted>] = &[
             let objective = |literal: &Literal| ObjectiveLiteral(literal.0 / 2);
             body.iter().any(|literal| is_negation(objective(literal)))
         })
+    }),
+    ("an atom listed", |file| {
+        file.lists(|form| matches!(form, Form::Objective(it) if !is_negation(it)))
+    }),
+    ("a negated atom listed", |file| {
+        file.lists(|form| matches!(form, Form::Objective(it) if is_negation(it)))
+    }),
+    ("not of an atom listed", |file| {
+        file.lists(|form| matches!(form, Form::Not(it) if !is_negation(it)))
+    }),
+    ("not of a negated atom listed", |file| {
+        file.lists(|form| matches!(form, Form::Not(it) if is_negation(it)))
     }),
     ("an entry without folds", |file| {
         file.has_entry(|entry| entry.foldings.is_empty())
@@ -115,7 +135,7 @@ const ACCEPTED: &[Feature<Accepted>] = &[
     ("the longest dual", |file| file.dual_length == LONGEST_DUAL),
 ];
 
-fn is_negation(literal: ObjectiveLiteral) -> bool {
+pub(crate) fn is_negation(literal: ObjectiveLiteral) -> bool {
     literal.0 % 2 == 1
 }
 
@@ -218,6 +238,8 @@ mod tests {
         let expected = [
             "a fact",
             "a rule for an explicit negation",
+            "an atom listed",
+            "not of an atom listed",
             "an entry without folds",
             "a later fold before an earlier one",
             "falsum without folds",
@@ -239,6 +261,9 @@ mod tests {
             "a fact that has other rules",
             "a rule for an explicit negation",
             "an explicit negation in a body",
+            "a negated atom listed",
+            "not of an atom listed",
+            "not of a negated atom listed",
             "an entry with several folds",
             "an entry with folds that are no neighbours",
             "falsum with folds",
@@ -285,7 +310,7 @@ mod tests {
             complaints.iter().sum::<usize>()
         };
         let numbers_up_to_10 = 10;
-        let accepted = 22;
+        let accepted = 26;
         let buffers = 3 + 2;
         let all = numbers_up_to_10 + accepted + buffers;
         assert_eq!(complaints(&coverage), all);

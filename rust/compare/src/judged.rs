@@ -5,6 +5,7 @@ use plain::{
     digits, dual, scenario_count, Digit, Form, Judgement, Literal, ObjectiveLiteral, Program, Query,
 };
 
+use crate::dual_coverage::is_negation;
 use crate::tally::Feature;
 
 /// A judged scenario.
@@ -63,7 +64,7 @@ impl Judged {
     }
 
     fn has_negation(&self, byte: u8) -> bool {
-        self.has(|literal| literal.0 % 2 == 1 && self.byte(literal) == byte)
+        self.has(|literal| is_negation(literal) && self.byte(literal) == byte)
     }
 
     fn has_digit(&self, digit: Digit) -> bool {
@@ -76,14 +77,14 @@ impl Judged {
         forms.any(|form| is_it(form).is_some_and(|objective| self.byte(objective) == BOTH))
     }
 
-    /// Whether a body that could hold does not make its head possible.
-    fn is_false_by_conjugate_alone(&self) -> bool {
+    /// Whether a body that could hold does not make such a head possible.
+    fn is_false_by_conjugate_alone(&self, is_it: impl Fn(ObjectiveLiteral) -> bool) -> bool {
         let can_hold = |literal: &Literal| match literal.form() {
             Form::Objective(objective) => !self.is_false(objective),
             Form::Not(objective) => !self.is_true(objective),
         };
         let mut folds = self.program.folds();
-        folds.any(|(_, head, body)| self.is_false(head) && body.iter().all(can_hold))
+        folds.any(|(_, head, body)| is_it(head) && self.is_false(head) && body.iter().all(can_hold))
     }
 
     /// Whether the least set of backed literals would be less than the greatest.
@@ -145,10 +146,15 @@ pub const JUDGED: &[Feature<Judged>] = &[
     ("an explicit negation undefined", |it| {
         it.has_negation(UNDEFINED)
     }),
-    (
-        "a literal false by its conjugate alone",
-        Judged::is_false_by_conjugate_alone,
-    ),
+    ("a literal false by its conjugate alone", |it| {
+        it.is_false_by_conjugate_alone(|_| true)
+    }),
+    ("an atom false by its negation alone", |it| {
+        it.is_false_by_conjugate_alone(|head| !is_negation(head))
+    }),
+    ("a negated atom false by its atom alone", |it| {
+        it.is_false_by_conjugate_alone(is_negation)
+    }),
     ("an explanation by a literal that is both", |it| {
         let objective = |form| match form {
             Form::Objective(objective) => Some(objective),
@@ -235,11 +241,20 @@ mod tests {
 
     #[test]
     fn a_literal_is_false_by_its_conjugate_alone() {
-        let is_it = |rules| judged("p q", "", rules, "", 0).is_false_by_conjugate_alone();
-        assert!(is_it("p :- not p; -p"));
-        assert!(is_it("p; -p"));
-        assert!(!is_it("p :- q; -p"));
-        assert!(!is_it("p :- not p"));
+        let is_it = |rules, of: fn(ObjectiveLiteral) -> bool| {
+            judged("p q", "", rules, "", 0).is_false_by_conjugate_alone(of)
+        };
+        let of_any = |rules| is_it(rules, |_| true);
+        assert!(of_any("p :- not p; -p"));
+        assert!(of_any("p; -p"));
+        assert!(!of_any("p :- q; -p"));
+        assert!(!of_any("p :- not p"));
+        let is_atom = |head| !is_negation(head);
+        let atom_alone = "p :- q; q :- not q; -p";
+        assert!(is_it(atom_alone, is_atom) && !is_it(atom_alone, is_negation));
+        let negation_alone = "-p :- q; q :- not q; p";
+        assert!(is_it(negation_alone, is_negation) && !is_it(negation_alone, is_atom));
+        assert!(is_it("p; -p", is_atom) && is_it("p; -p", is_negation));
     }
 
     #[test]
@@ -253,6 +268,8 @@ mod tests {
             "a literal both",
             "falsum both",
             "a literal false by its conjugate alone",
+            "an atom false by its negation alone",
+            "a negated atom false by its atom alone",
             "a query that holds while falsum is both",
             "an abducible assumed",
         ];
