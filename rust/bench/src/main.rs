@@ -1,8 +1,8 @@
 //! How fast the finder behind the C boundary settles scenarios beside the
 //! separate one, how that grows with the abducibles and falls with held faults,
-//! what a call costs beside what it tries, how long the longest takes, what the
-//! worst scenarios cost, and how much stack it takes. All on one core, in the
-//! time of the processor.
+//! what a call costs beside what it tries, what writing a dual costs, how long
+//! the longest call takes, what the worst scenarios cost, and how much stack it
+//! takes. All on one core, in the time of the processor.
 //!
 //! `bench OTHER.so` measures another build of the library beside this one; see
 //! [`other`].
@@ -12,8 +12,8 @@
 //! * [`searching`] goes through whole searches with any finder;
 //! * [`timing`] times, [`measuring`] does so with several finders, and
 //!   [`columns`] prints the times beside each other;
-//! * [`speed`], [`growth`], [`held`], [`allowances`], [`longest_calls`],
-//!   [`one_scenario`] and [`stack`] are the tables.
+//! * [`speed`], [`growth`], [`held`], [`allowances`], [`writing`],
+//!   [`longest_calls`], [`one_scenario`] and [`stack`] are the tables.
 
 mod allowances;
 mod columns;
@@ -29,13 +29,14 @@ mod searching;
 mod speed;
 mod stack;
 mod timing;
+mod writing;
 
 use std::env;
 use std::path::Path;
 use std::process::ExitCode;
 
-use files::many_finds;
 use files::seeded::{LARGE, MIDDLE, MIDDLE_12, SMALL, SMALL_12};
+use files::{largest, layered, many_finds};
 use finders::Finders;
 use other::Other;
 
@@ -76,6 +77,8 @@ fn print(finders: &Finders) {
     growth::print(finders, &MIDDLE, 6..=13);
     held::print(finders, &middle);
     allowances::print(finders, &middle);
+    let (layers, largest) = (layered::papers(), largest::papers());
+    writing::print(finders, &[&small, &middle, &large, &layers, &largest]);
     longest_calls::print(finders, &[&middle, &large, &middle_12, &many_finds]);
     one_scenario::print(finders);
     stack::print(finders, &large);

@@ -3,8 +3,10 @@
 //! * [`seeded`] are made from a seed, in three sizes;
 //! * [`many_finds`] has hundreds of smallest explanations;
 //! * [`layered`] has layers that are settled one after the other;
+//! * [`largest`] has as much as a file can have;
 //! * [`there_and_back`] takes the longest for one scenario.
 
+pub mod largest;
 pub mod layered;
 pub mod many_finds;
 pub mod seeded;
