@@ -62,7 +62,8 @@ pub fn default_negation(o: Objective, atoms: u16) -> LiteralOf
     }
 }
 
-// conj_E: an atom for its explicit negation, and back. A default negation has none.
+// conj_E: "If an objective literal O is an atom A, the explicit conjugate of O is the atom -A; otherwise if O has the form -A, the explicit conjugate
+// of O is A." A default negation has none.
 pub fn explicit_conjugate(l: Form) -> FormOf
     ensures { λ r. ⌜ r ≡ conjE l ⌝ }
 {
@@ -74,7 +75,7 @@ pub fn explicit_conjugate(l: Form) -> FormOf
     }
 }
 
-// conj_D: not added or removed.
+// conj_D: "the default conjugate of an objective literal O is not(O), and the default conjugate of not(O) is O".
 pub fn default_conjugate(l: Form) -> Form
     ensures { λ r. ⌜ r ≡ conjD l ⌝ }
 {
@@ -86,7 +87,7 @@ pub fn default_conjugate(l: Form) -> Form
     }
 }
 
-// The explicit conjugate, by the numbers of objective literals.
+// The explicit conjugate, by the numbers of objective literals. Falsum, and a number past it, has none.
 pub fn explicit_conjugate_number(o: Objective, atoms: u16) -> Conjugate
     ensures { λ r. ⌜ r ≡ conjugateOf atoms (o .0) ⌝ }
 {
@@ -101,7 +102,7 @@ pub fn explicit_conjugate_number(o: Objective, atoms: u16) -> Conjugate
     }
 }
 
-// The default conjugate, by the numbers of literals.
+// The default conjugate, by the numbers of literals. A number that is not below 4n has none.
 pub fn default_conjugate_number(l: Literal, atoms: u16) -> LiteralOf
     ensures { λ r. ⌜ r ≡ defaultConjugateOf atoms (l .0) ⌝ }
 {
