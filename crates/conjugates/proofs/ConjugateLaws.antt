@@ -5,7 +5,7 @@ use mathlib.Core.Bool.{Bool, true, false, cond, true≢false}
 use borrow.Author.Tests.{ltb-true, ltb-false, lt-ltb, le-ltb}
 use lib.Dec.{ltb}
 use Rattle.literals.specs.Numbering.{atomNumber, explicitConjugate, literal, defaultNegation, defaultConjugate, falsum}
-use Rattle.literals.specs.Numbering.{formOf, listedForm, objectiveForm}
+use Rattle.literals.specs.Numbering.{formOf, listedForm}
 use Rattle.literals.specs.declared.Atom.{Atom}
 use Rattle.literals.specs.declared.Literal.{Literal}
 use Rattle.literals.specs.declared.Objective.{Objective}
@@ -93,16 +93,6 @@ module _ (n o : ℕ) where
   pub no-default-negation-tells : defaultNegationOf n o ≡ literal-of.Nothing → 2 * n ≤ o
   no-default-negation-tells h =
       unanswered (2 * n) o (literal-of.Is (record { 0 = defaultNegation o })) literal-of.Nothing h literal-apart
-
-  -- ---- by forms
-
-  pub objective-form-tells : {f : Form} → objectiveForm n o ≡ form-of.Is f → (o < 2 * n) × (f ≡ formOf (literal o))
-  objective-form-tells h =
-      let w = answered (2 * n) o (form-of.Is (formOf (literal o))) form-of.Nothing h form-apart in
-      (w .0, cc)
-
-  pub no-objective-form-tells : objectiveForm n o ≡ form-of.Nothing → 2 * n ≤ o
-  no-objective-form-tells h = unanswered (2 * n) o (form-of.Is (formOf (literal o))) form-of.Nothing h form-apart
 
   pub conjugate-made : o < 2 * n → {p : Objective} → p .0 ≡ explicitConjugate o → conjugate.Is p ≡ conjugateOf n o
   conjugate-made h {p} e = rw (lt-ltb o (2 * n) h, ← e)

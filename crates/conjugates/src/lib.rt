@@ -62,8 +62,8 @@ pub fn default_negation(o: Objective, atoms: u16) -> LiteralOf
     }
 }
 
-// conj_E: "If an objective literal O is an atom A, the explicit conjugate of O is the atom -A; otherwise if O has the form -A, the explicit conjugate
-// of O is A." A default negation has none.
+// "If an objective literal O is an atom A, the explicit conjugate of O (conj_E(O)) is the atom -A; otherwise if O has the form -A, the
+// explicit conjugate of O is A." A default negation has none.
 pub fn explicit_conjugate(l: Form) -> FormOf
     ensures { λ r. ⌜ r ≡ conjE l ⌝ }
 {
@@ -75,7 +75,7 @@ pub fn explicit_conjugate(l: Form) -> FormOf
     }
 }
 
-// conj_D: "the default conjugate of an objective literal O is not(O), and the default conjugate of not(O) is O".
+// "the default conjugate (conj_D(O)) of an objective literal O is not(O), and the default conjugate of not(O) is O".
 pub fn default_conjugate(l: Form) -> Form
     ensures { λ r. ⌜ r ≡ conjD l ⌝ }
 {

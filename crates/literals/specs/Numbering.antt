@@ -88,10 +88,6 @@ literalListed n l = ltb l (4 * n)
 abbrev pub listedForm : ℕ → ℕ → FormOf
 listedForm n l = cond (literalListed n l) (form-of.Is (formOf l)) form-of.Nothing
 
--- as the objective literals below falsum have
-abbrev pub objectiveForm : ℕ → ℕ → FormOf
-objectiveForm n o = cond (listed n o) (form-of.Is (formOf (literal o))) form-of.Nothing
-
 -- "Judged literals: N = 2n+1"
 abbrev pub judged : ℕ → ℕ
 judged n = 2 * n + 1

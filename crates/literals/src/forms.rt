@@ -2,7 +2,7 @@
 // is an objective literal, or not(O)". So there are four forms, each of one atom.
 ghost use mathlib.Core.Path.{_≡_};
 ghost use Prim.Native.Nat.{_/_, _%_, _<_};
-ghost use Rattle.literals.specs.Numbering.{formOf, listedForm, numberOf, objectiveForm};
+ghost use Rattle.literals.specs.Numbering.{formOf, listedForm, literal, numberOf};
 use crate::Atom;
 use crate::Literal;
 use crate::Objective;
@@ -49,9 +49,9 @@ pub fn form_of(l: Literal, atoms: u16) -> FormOf
     }
 }
 
-// The form of an objective literal. Falsum, and a number past it, has none.
+// The form of an objective literal, which is that of its literal. Falsum, and a number past it, has none.
 pub fn objective_form(o: Objective, atoms: u16) -> FormOf
-    ensures { λ r. ⌜ r ≡ objectiveForm atoms (o .0) ⌝ }
+    ensures { λ r. ⌜ r ≡ listedForm atoms (literal (o .0)) ⌝ }
 {
     if !is_listed(o, atoms) {
         return FormOf::Nothing;

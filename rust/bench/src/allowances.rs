@@ -9,6 +9,7 @@ use crate::finders::{Buffers, Finder, Finders};
 use crate::measuring::{times, work};
 use crate::searching::{fresh, record_after};
 use crate::timing::{microseconds, Work};
+use crate::writing::writing;
 
 const ALLOWANCES: [u32; 4] = [0, 1, 64, ALLOWANCE];
 
@@ -18,7 +19,7 @@ pub fn print(finders: &Finders, papers: &Papers) {
     println!("    {:36}{:>14}{}", "", "a scenario", heads(&all));
     let reading = times(&all, |finder| Some(reading(finder, papers)));
     print_line("reading both papers", 0, &reading);
-    let writing = times(&all, |finder| Some(writing(finder, papers)));
+    let (_, writing) = writing(&all, papers);
     print_line("reading the file, writing its dual", 0, &writing);
     for allowance in ALLOWANCES {
         let what = format!("continuing with allowance {allowance}");
@@ -41,15 +42,6 @@ fn reading<'p>(finder: &'p dyn Finder, papers: &'p Papers) -> Work<'p> {
     work(finder, || {
         let words = finder.rest(papers);
         assert_eq!(words[0], 0, "the papers are accepted");
-        1
-    })
-}
-
-fn writing<'p>(finder: &'p dyn Finder, papers: &'p Papers) -> Work<'p> {
-    let mut buffers = Buffers::new();
-    work(finder, move || {
-        let words = finder.write_dual(papers, &mut buffers);
-        assert_eq!(words[0], 0, "the file is accepted");
         1
     })
 }

@@ -22,8 +22,8 @@ pub fn print(finders: &Finders, files: &[&Papers]) {
     }
 }
 
-/// The dual's length, and the seconds for writing it.
-fn writing(finders: &[&dyn Finder], papers: &Papers) -> (u64, Times) {
+/// The dual's length, and the seconds for reading the file and writing it.
+pub fn writing(finders: &[&dyn Finder], papers: &Papers) -> (u64, Times) {
     let agreed = Agreed::new();
     let times = times(finders, |finder| {
         let agreed = &agreed;

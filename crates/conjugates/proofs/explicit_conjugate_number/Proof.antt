@@ -2,11 +2,12 @@
 -- Assumes nothing.
 use borrow.Author.Needs.{needs}
 use mathlib.Core.Path.{_≡_, sym, ap, _∙_}
-use Prim.Native.Nat.{_<_}
+use Prim.Native.Nat.{_*_, _<_}
+use native.Mathlib.Omega.{arith}
 use Rattle.literals.specs.Section21.{conjE}
-use Rattle.literals.specs.Numbering.{literal, falsum, formOf, objectiveNumber, objectiveOr, explicitConjugate}
+use Rattle.literals.specs.Numbering.{literal, formOf, objectiveNumber, objectiveOr, explicitConjugate}
 use Rattle.literals.proofs.NumberingLaws.{explicit-never-none}
-use Rattle.conjugates.proofs.ConjugateLaws.{objective-form-tells, no-objective-form-tells, conjugate-made, no-conjugate-made}
+use Rattle.conjugates.proofs.ConjugateLaws.{form-tells, no-form-tells, conjugate-made, no-conjugate-made}
 use Rattle.conjugates.proofs.explicit_conjugate_number.Statement.{statement}
 use Rattle.conjugates.proofs.explicit_conjugate_number.Tie as tie
 
@@ -19,9 +20,9 @@ module _ (c : tie.After-explicit-conjugate) where
   abbrev start : tie.Start
   start = known .before .before .before .before
 
-  tells : (start .args .o .0 < falsum (start .args .atoms)) × (known .before .form .given .0 .0 ≡ formOf (literal (start .args .o .0)))
+  tells : (literal (start .args .o .0) < 4 * start .args .atoms) × (known .before .form .given .0 .0 ≡ formOf (literal (start .args .o .0)))
   tells =
-      objective-form-tells (start .args .atoms) (start .args .o .0)
+      form-tells (start .args .atoms) (literal (start .args .o .0))
       (sym (known .before .before .before .objective-form .ensures) ∙ known .before .form .given .1)
 
   by-form : c .explicit-conjugate .result ≡ conjE (formOf (literal (start .args .o .0)))
@@ -39,8 +40,8 @@ enum-told c = search needs
 returns : tie.Need-returns
 returns c =
     let a = c .before .before .before .args in
-    no-conjugate-made (a .atoms) (a .o .0)
-    (no-objective-form-tells (a .atoms) (a .o .0) (sym (c .before .before .objective-form .ensures) ∙ c .enum-told .given .1))
+    let past = no-form-tells (a .atoms) (literal (a .o .0)) (sym (c .before .before .objective-form .ensures) ∙ c .enum-told .given .1) in
+    no-conjugate-made (a .atoms) (a .o .0) (omega (arith, past))
 
 explicit-conjugate-requires : tie.Need-explicit-conjugate-requires
 explicit-conjugate-requires c κs = search needs
@@ -63,7 +64,7 @@ returns-2 c =
     let is = c .before .before .before in
     let w = is .before .before in
     let a = start w .args in
-    conjugate-made (a .atoms) (a .o .0) (tells w .0)
+    conjugate-made (a .atoms) (a .o .0) (omega (arith, tells w .0))
     (c .objective-of .ensures ∙ ap objectiveNumber (c .before .literal-number .ensures)
     ∙ ap (objectiveOr (a .o .0)) (sym (is .conjugate .given .1) ∙ by-form w))
 
