@@ -1,20 +1,22 @@
--- The bytes of the model, and what they tell: each judged literal's byte, and an explanation by the sets themselves.
+-- The bytes of the model, and what they tell: each judged literal's byte, whether one is 3, and an explanation by the sets themselves.
 -- Assumes nothing.
-use mathlib.Core.Path.{_≡_, refl, ap, ap₂}
+use mathlib.Core.Path.{_≡_, refl, sym, ap, ap₂, subst, _∙_}
 use mathlib.Core.Bool.{Bool, true, false, not, cond}
-use mathlib.Core.List.{[], _∷_}
-use Prim.Native.Nat.{ℕ, zero, suc, _<_}
-use native.Mathlib.Nat.{not-suc-le-zero, le-of-suc-le-suc}
+use mathlib.Core.List.{List, [], _∷_}
+use Prim.Native.Nat.{ℕ, zero, suc, _+_, _<_}
+use native.Mathlib.Nat.{not-suc-le-zero, le-of-suc-le-suc, add-zero, zero-add}
+use native.Mathlib.Numerals.{add-one}
 use native.Mathlib.Omega.{arith}
-use lib.Dec.{eqb}
+use lib.Dec.{T, eqb, eqb→eq, T-not}
 use lib.ListN.{length, getD}
 use Rattle.literals.specs.Numbering.{objectiveNumber, defaultNegated, judged, falsum}
 use Rattle.papers.specs.Program.{Program, Query}
 use Rattle.papers.specs.Valid.{All, All.none as nothing, All.each as each}
 use Rattle.papers.specs.Tests.{_and_, _or_}
-use Rattle.model.specs.Sets.{Set, has}
+use Rattle.papers.proofs.TestLaws.{right, either-left, either-right, passes, is-false, or-false, false-or, and-assoc, or-assoc}
+use Rattle.model.specs.Sets.{Set, has, flagsFrom, setOf}
 use Rattle.model.specs.LeastSet.{literalHolds, bodyHolds}
-use Rattle.model.specs.Model.{model, valueByte, valueBytes, modelBytes, queryLiteralHolds, queryHolds, explainsBy, explains}
+use Rattle.model.specs.Model.{model, valueByte, valueBytes, modelBytes, queryLiteralHolds, queryHolds, contradictory, explainsBy, explains}
 use Rattle.model.proofs.Rounds.{model-sized}
 
 -- ---- the bytes of a pair
@@ -56,6 +58,51 @@ byte-false true false = refl
 byte-false false true = refl
 byte-false false false = refl
 
+-- Byte 3: true, and false besides.
+byte-both : (t f : Bool) → eqb (valueByte t f) 3 ≡ (t and f)
+unfolding valueByte _and_
+byte-both true true = refl
+byte-both true false = refl
+byte-both false true = refl
+byte-both false false = refl
+
+-- ---- any byte 3
+
+-- Bytes are contradictory exactly where one of them is 3.
+pub contradictory-at : (bytes : List ℕ) (o : ℕ) → getD bytes o 0 ≡ 3 → T (contradictory bytes)
+unfolding contradictory
+contradictory-at [] o e = absurd (omega arith)
+contradictory-at (byte ∷ more) zero e = either-left (eqb byte 3) (contradictory more) (subst (λ (x : ℕ). T (eqb x 3)) (sym e) tt)
+contradictory-at (byte ∷ more) (suc o) e = either-right (eqb byte 3) (contradictory more) (contradictory-at more o e)
+
+pub contradictory-only : (bytes : List ℕ) → ((o : ℕ) → getD bytes o 0 ≡ 3 → ⊥) → contradictory bytes ≡ false
+unfolding contradictory
+contradictory-only [] none = refl
+contradictory-only (byte ∷ more) none =
+    rw (is-false (eqb byte 3) (λ t. none 0 (eqb→eq byte 3 t)))
+    (false-or (contradictory more) ∙ contradictory-only more (λ o. none (suc o)))
+
+-- Of two sets, as they grow by one literal.
+module _ (a b : ℕ → Bool) where
+  grown-from : (n o : ℕ) → contradictory (valueBytes (flagsFrom a (suc n) o) (flagsFrom b (suc n) o))
+      ≡ (contradictory (valueBytes (flagsFrom a n o) (flagsFrom b n o)) or (a (o + n) and b (o + n)))
+  unfolding contradictory valueBytes flagsFrom
+  grown-from zero o =
+      or-false (eqb (valueByte (a o) (b o)) 3)
+      ∙ byte-both (a o) (b o)
+      ∙ sym (false-or (a o and b o))
+      ∙ ap (λ (k : ℕ). false or (a k and b k)) (sym (add-zero o))
+  grown-from (suc n) o =
+      let first = eqb (valueByte (a o) (b o)) 3 in
+      let more = contradictory (valueBytes (flagsFrom a n (suc o)) (flagsFrom b n (suc o))) in
+      let e : suc o + n ≡ o + suc n = omega arith in
+      ap (λ (x : Bool). first or x) (grown-from n (suc o) ∙ ap (λ (k : ℕ). more or (a k and b k)) e)
+      ∙ sym (or-assoc first more (a (o + suc n) and b (o + suc n)))
+
+  pub contradictory-grown : (n : ℕ) → contradictory (valueBytes (setOf (n + 1) a) (setOf (n + 1) b))
+      ≡ (contradictory (valueBytes (setOf n a) (setOf n b)) or (a n and b n))
+  contradictory-grown n = rw add-one (grown-from n 0 ∙ rw zero-add)
+
 module _ (n : ℕ) (trues falses : Set) (ht : length trues ≡ n) (hf : length falses ≡ n) where
   query-literal : (l : ℕ) → objectiveNumber l < n → queryLiteralHolds (valueBytes trues falses) l ≡ literalHolds trues falses l
   unfolding queryLiteralHolds literalHolds
@@ -79,14 +126,27 @@ module _ (p : Program) (s : ℕ) where
   unfolding modelBytes
   model-byte o h = let z = model-sized p s in bytes-at (model p s .trues) (model p s .falses) o (omega arith) (omega arith)
 
-  -- An explanation, by the sets: falsum false and not true, and each literal of the query holding as a body's does.
+  -- An explanation, by the sets: falsum false and not true, each literal of the query holding as a body's does, and no literal both.
   pub explains-is : {q : Query} → All (λ l. objectiveNumber l < judged (p .atoms)) q
       → explains p q s
-      ≡ ((not (has (model p s .trues) (falsum (p .atoms))) and has (model p s .falses) (falsum (p .atoms)))
+      ≡ (((not (has (model p s .trues) (falsum (p .atoms))) and has (model p s .falses) (falsum (p .atoms)))
       and bodyHolds (model p s .trues) (model p s .falses) q)
-  unfolding explains explainsBy
-  explains-is h =
+      and not (contradictory (valueBytes (model p s .trues) (model p s .falses))))
+  unfolding explains explainsBy modelBytes
+  explains-is {q} h =
       let z = model-sized p s in
+      let t = model p s .trues in
+      let f = model p s .falses in
+      let bottom = falsum (p .atoms) in
       ap₂ _and_
-      (rw (model-byte (falsum (p .atoms)) (omega arith)) (byte-false _ _))
-      (unfold modelBytes in query-body (judged (p .atoms)) (model p s .trues) (model p s .falses) (z .trues) (z .falses) h)
+      (rw (bytes-at t f bottom (omega arith) (omega arith)) (byte-false _ _))
+      (ap (λ (x : Bool). x and not (contradictory (valueBytes t f))) (query-body (judged (p .atoms)) t f (z .trues) (z .falses) h))
+      ∙ sym (and-assoc (not (has t bottom) and has f bottom) (bodyHolds t f q) (not (contradictory (valueBytes t f))))
+
+  -- No literal of an explanation's model is both true and false.
+  pub explained-consistent : (q : Query) → explains p q s ≡ true → (o : ℕ) → getD (modelBytes p s) o 0 ≡ 3 → ⊥
+  unfolding explains explainsBy
+  explained-consistent q e o both =
+      let bytes = modelBytes p s in
+      let h = right (eqb (getD bytes (falsum (p .atoms)) 0) 2) _ (passes _ e) in
+      T-not (contradictory bytes) (right (queryHolds bytes q) _ h) (contradictory-at bytes o both)

@@ -9,7 +9,8 @@ use Rattle.model.specs.Iteration.{iterate, firstStill}
 use Rattle.model.specs.Scenarios.{digitOf, trueAbducible, undefinedAbducible, falseAbducible, trueAbducibles, possibleAbducibles}
 use Rattle.model.specs.LeastSet.{literalHolds, bodyHolds, supported, step, least}
 use Rattle.model.specs.Model.{conjugateIn, sameInterpretation, trueReduct, possibleReduct, trueSet, possibleSet, falseSet, successor, start}
-use Rattle.model.specs.Model.{interpretationAt, rounds, model, valueByte, valueBytes, modelBytes, queryLiteralHolds, queryHolds, explainsBy, explains}
+use Rattle.model.specs.Model.{interpretationAt, rounds, model, valueByte, valueBytes, modelBytes}
+use Rattle.model.specs.Model.{queryLiteralHolds, queryHolds, contradictory, explainsBy, explains}
 use Rattle.model.specs.Falsity.{listedBy, someHolds, foldsHold, entryHolds, backed, backedSet, greatest}
 
 -- Sets and least sets,
@@ -27,9 +28,14 @@ unfoldable sequence : Unit {0}
 unfolding conjugateIn sameInterpretation trueReduct possibleReduct trueSet possibleSet falseSet successor start interpretationAt rounds
 sequence = tt
 
+-- the verdict of a model's bytes,
+unfoldable verdict : Unit {0}
+unfolding queryLiteralHolds queryHolds contradictory explainsBy explains
+verdict = tt
+
 -- the model, its bytes and its verdict,
 unfoldable pub modelling : Unit {0}
-unfolding sets scenarios sequence conjugating allRules model valueByte valueBytes modelBytes queryLiteralHolds queryHolds explainsBy explains
+unfolding sets scenarios sequence conjugating allRules model valueByte valueBytes modelBytes verdict
 modelling = tt
 
 -- the dual's fields,

@@ -97,10 +97,16 @@ unfoldable pub queryHolds : List ℕ → Query → Bool
 queryHolds bytes [] = true
 queryHolds bytes (l ∷ more) = queryLiteralHolds bytes l and queryHolds bytes more
 
+-- Card 3: "any model byte 3".
+unfoldable pub contradictory : List ℕ → Bool
+contradictory [] = false
+contradictory (byte ∷ more) = eqb byte 3 or contradictory more
+
 -- By a model's bytes.
 unfoldable pub explainsBy : ℕ → List ℕ → Query → Bool
-explainsBy n bytes q = eqb (getD bytes (falsum n) 0) 2 and queryHolds bytes q
+explainsBy n bytes q = eqb (getD bytes (falsum n) 0) 2 and queryHolds bytes q and not (contradictory bytes)
 
--- "A scenario is an explanation exactly if falsum's byte is 2 and each query literal holds."
+-- "A scenario is an explanation exactly if falsum's byte is 2 and each query literal holds." Card 3: "From now on a scenario with any
+-- model byte 3 is no explanation."
 unfoldable pub explains : Program → Query → ℕ → Bool
 explains p q s = explainsBy (p .atoms) (modelBytes p s) q

@@ -8,6 +8,8 @@ pub mod Models
 pub mod Searches
 -- Whole searches with held faults.
 pub mod HeldSearches
+-- A contradiction is no explanation.
+pub mod Contradictions
 -- The four forms of a literal and their conjugates.
 pub mod FourForms
 -- The table of the theorems.

@@ -1,14 +1,14 @@
--- The models of the reference calls: Examples 2.1 and 3.1, and the contradiction with and without its integrity rule.
+-- The models of the reference calls: Examples 2.1 and 3.1, and the contradiction with its integrity rule.
 -- Assumes nothing.
 use mathlib.Core.Path.{_≡_, refl}
-use mathlib.Core.Bool.{true, false}
+use mathlib.Core.Bool.{false}
 use mathlib.Core.List.{[], _∷_}
 use lib.ListN.{getD}
 use Rattle.papers.specs.Outcome.{accepted}
 use Rattle.papers.specs.Reading.{readFile}
 use Rattle.papers.specs.Encoding.{encodeFile}
 use Rattle.model.specs.Model.{modelBytes, rounds, explains}
-use Rattle.reference.specs.Programs.{example21, example31, contradiction, contradictionAllowed, queryD}
+use Rattle.reference.specs.Programs.{example21, example31, contradiction, queryD}
 use Rattle.reference.specs.ComputingCalls.{computing}
 
 pub model21 : modelBytes example21 0 ≡ 0 ∷ 2 ∷ 2 ∷ 1 ∷ 1 ∷ 2 ∷ 2 ∷ []
@@ -35,10 +35,6 @@ pub contradiction-accepted : readFile (encodeFile contradiction) ≡ accepted co
 unfolding computing
 contradiction-accepted = refl
 
-pub allowed-accepted : readFile (encodeFile contradictionAllowed) ≡ accepted contradictionAllowed
-unfolding computing
-allowed-accepted = refl
-
 -- In scenario 1, a is assumed.
 pub contradiction-falsum : getD (modelBytes contradiction 1) 4 0 ≡ 3
 unfolding computing
@@ -47,11 +43,3 @@ contradiction-falsum = refl
 pub contradiction-none : explains contradiction queryD 1 ≡ false
 unfolding computing
 contradiction-none = refl
-
-pub allowed-d : getD (modelBytes contradictionAllowed 1) 2 0 ≡ 3
-unfolding computing
-allowed-d = refl
-
-pub allowed-explains : explains contradictionAllowed queryD 1 ≡ true
-unfolding computing
-allowed-explains = refl

@@ -22,15 +22,17 @@ use Rattle.held.specs.HeldProblem.{heldProblem}
 use Rattle.held.specs.HeldCalls.{freshSearch}
 use Rattle.fresh.specs.Beginning.{freshTold}
 use Rattle.trying.specs.Trying.{problemOf}
-use Rattle.reference.specs.Programs.{example21, example21Dual, example31, contradiction, contradictionAllowed, queryD}
+use Rattle.reference.specs.Programs.{example21, example21Dual, example31, contradiction, contradictionAllowed, queryD, allowed}
 use Rattle.reference.specs.Programs.{example32, figureP0, figureP3, figureP4, figureQ8, figureQ11}
 use Rattle.reference.proofs.Example21.{accepted21, length21, dual21}
 use Rattle.reference.proofs.Models.{model21, rounds21, accepted31, model31, rounds31}
-use Rattle.reference.proofs.Models.{contradiction-accepted, contradiction-falsum, contradiction-none, allowed-accepted, allowed-d, allowed-explains}
+use Rattle.reference.proofs.Models.{contradiction-accepted, contradiction-falsum, contradiction-none}
 use Rattle.reference.proofs.Searches.{Read, whole, example32-read, example32-found, figureP0-read, figureP0-found, figureP3-read, figureP3-found}
 use Rattle.reference.proofs.Searches.{figureP4-read, figureP4-found, figureQ8-read, figureQ8-found, figureQ11-read, figureQ11-found}
 use Rattle.reference.proofs.HeldSearches.{assumed-begins, assumed-found, ruled-found, ruled-stop, both-ruled-found, shared-refused}
 use Rattle.reference.proofs.HeldSearches.{unlisted-refused}
+use Rattle.reference.proofs.Contradictions.{allowed-read, allowed-model, allowed-rounds, allowed-none, allowed-untouched}
+use Rattle.reference.proofs.Contradictions.{allowed-unasked, allowed-open, allowed-found}
 use Rattle.reference.proofs.FourForms.{p1, forms-of-p1, default-of-p1, explicit-of-p1, explicit-numbers}
 
 pub record Calls : Type 0 where
@@ -62,13 +64,13 @@ pub record Calls : Type 0 where
   -- "p3 (none) gives nothing, 1 tried."
   pub p3-read : Read figureP3
   pub p3-found : continue (problemOf figureP3) 9 fresh [] ≡ whole 1 0 [] 1
-  -- "d :- a; -d; falsum :- d, -d; query d; a assumed: falsum 3, no explanation. Without the integrity rule d is 3 and it is one."
+  -- "d :- a; -d; falsum :- d, -d; query d; a assumed: falsum 3, no explanation. Without the integrity rule d is 3": what it then is, Card 3 says below.
   pub contradiction-accepted : readFile (encodeFile contradiction) ≡ accepted contradiction
   pub contradiction-falsum : getD (modelBytes contradiction 1) (falsum 2) 0 ≡ 3
   pub contradiction-unexplained : explains contradiction queryD 1 ≡ false
-  pub allowed-accepted : readFile (encodeFile contradictionAllowed) ≡ accepted contradictionAllowed
-  pub allowed-both : getD (modelBytes contradictionAllowed 1) 2 0 ≡ 3
-  pub allowed-explained : explains contradictionAllowed queryD 1 ≡ true
+  pub allowed-read : Read allowed
+  pub allowed-model : modelBytes contradictionAllowed 1 ≡ 1 ∷ 2 ∷ 3 ∷ 3 ∷ 2 ∷ []
+  pub allowed-rounds : rounds contradictionAllowed 1 ≡ 2
   -- Card 1. Figure 1's not p4 with a held as assumed: 1 alone; the scenarios that do not agree count as tried "with zero rounds".
   pub assumed-begins : freshTold (readFile (encodeFile (figureP4 .program))) (masks 1 0) ≡ tells (freshSearch (masks 1 0))
   pub assumed-found : continue (heldProblem (problemOf figureP4) (masks 1 0)) 9 fresh (0 ∷ 0 ∷ []) ≡ whole 9 1 (1 ∷ 0 ∷ []) 6
@@ -85,6 +87,13 @@ pub record Calls : Type 0 where
   pub default-of-p1 : map defaultConjugate (4 ∷ 5 ∷ 6 ∷ 7 ∷ []) ≡ 5 ∷ 4 ∷ 7 ∷ 6 ∷ []
   pub explicit-of-p1 : map (λ l. conjE (formOf l)) (4 ∷ 5 ∷ 6 ∷ 7 ∷ []) ≡ Is (form.NegatedAtom p1) ∷ Nothing ∷ Is (form.Atom p1) ∷ Nothing ∷ []
   pub explicit-numbers : map explicitConjugate (2 ∷ 3 ∷ []) ≡ 3 ∷ 2 ∷ []
+  -- Card 3. "A scenario with any model byte 3 is no explanation": asked for d, for a, for nothing. "The reference call without its integrity rule now
+  -- finds nothing."
+  pub allowed-unexplained : explains contradictionAllowed queryD 1 ≡ false
+  pub allowed-untouched : explains contradictionAllowed (0 ∷ []) 1 ≡ false
+  pub allowed-unasked : explains contradictionAllowed [] 1 ≡ false
+  pub allowed-open : explains contradictionAllowed [] 0 ≡ true
+  pub allowed-found : continue (problemOf allowed) 9 fresh (0 ∷ 0 ∷ []) ≡ whole 3 0 (0 ∷ 0 ∷ []) 5
 
 pub calls : Calls
 calls = record {
@@ -111,9 +120,9 @@ calls = record {
   contradiction-accepted = contradiction-accepted;
   contradiction-falsum = contradiction-falsum;
   contradiction-unexplained = contradiction-none;
-  allowed-accepted = allowed-accepted;
-  allowed-both = allowed-d;
-  allowed-explained = allowed-explains;
+  allowed-read = allowed-read;
+  allowed-model = allowed-model;
+  allowed-rounds = allowed-rounds;
   assumed-begins = assumed-begins;
   assumed-found = assumed-found;
   ruled-found = ruled-found;
@@ -125,4 +134,9 @@ calls = record {
   default-of-p1 = default-of-p1;
   explicit-of-p1 = explicit-of-p1;
   explicit-numbers = explicit-numbers;
+  allowed-unexplained = allowed-none;
+  allowed-untouched = allowed-untouched;
+  allowed-unasked = allowed-unasked;
+  allowed-open = allowed-open;
+  allowed-found = allowed-found;
 }

@@ -64,6 +64,10 @@ queryD = 4 ∷ []
 abbrev pub papers : Program → Query → Papers
 papers program query = record { program = program; query = query }
 
+-- That without the integrity rule, with its query.
+abbrev pub allowed : Papers
+allowed = papers contradictionAllowed queryD
+
 -- "Example 3.2, p*, q* abducible in that order, query q", of document 000: p, q, p*, q*, p_constr, q_constr = 0 to 5; p :- not q*;
 -- q :- not p*; p_constr :- p, -p*; q_constr :- q, -q*; falsum :- p_constr; falsum :- q_constr.
 abbrev pub example32 : Papers

@@ -24,8 +24,7 @@ use Rattle.steps.specs.Continuing.{Report, stateBy, continue}
 use Rattle.steps.specs.Spoilt.{spoiltBy}
 use Rattle.stepping.specs.Stepping.{Kept, InLanes}
 
--- What a file and a sheet come to: "scenario s below 3^k", "a scenario is an explanation exactly if falsum's byte is 2 and each query
--- literal holds", and "j is its round count".
+-- What a file and a sheet come to: "scenario s below 3^k", which of these are explanations, and "j is its round count".
 abbrev pub problemOf : Papers → Problem
 problemOf q = record {
   abducibles = length (q .program .abducibles);

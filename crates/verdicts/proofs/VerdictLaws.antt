@@ -5,29 +5,49 @@ use mathlib.Core.Bool.{Bool, not}
 use mathlib.Core.List.{List}
 use Prim.Native.Nat.{ℕ, _+_}
 use native.Mathlib.Omega.{arith}
-use lib.Bits.{bitAnd}
+use lib.Bits.{bitAnd, bitOr}
 use lib.ListN.{getD}
 use Rattle.literals.specs.Numbering.{judged, falsum}
 use Rattle.papers.specs.Program.{Program, Query}
 use Rattle.papers.specs.Valid.{ValidBody}
 use Rattle.papers.proofs.Lists.{all-each}
-use Rattle.papers.specs.Tests.{_and_}
-use Rattle.model.specs.Sets.{has}
+use Rattle.papers.specs.Tests.{_and_, _or_}
+use Rattle.model.specs.Sets.{has, flagsFrom}
 use Rattle.model.specs.LeastSet.{bodyHolds}
+use Rattle.model.specs.Model.{valueBytes, contradictory}
 use Rattle.lanes.specs.Lanes.{inLane, lane}
 use Rattle.lanes.specs.Words.{OtherLanes, Literals, BodyWord}
 use Rattle.settling.specs.RoundLanes.{SettledLanes}
-use Rattle.verdicts.specs.VerdictLanes.{ExplainedWord, VerdictLanes}
-use Rattle.lanes.proofs.LaneLaws.{lane-and, has-lane}
-use Rattle.model.proofs.ByteLaws.{explains-is}
+use Rattle.verdicts.specs.VerdictLanes.{BothLanes, ExplainedWord, VerdictLanes}
+use Rattle.lanes.proofs.LaneLaws.{lane-and, lane-or, lane-none, has-lane}
+use Rattle.model.proofs.ByteLaws.{contradictory-grown, explains-is}
 
-pub explained-word : (n o : ℕ) (query trues falses : List ℕ) (other w : ℕ) → o ≡ falsum n → Literals (judged n) query
-    → OtherLanes (getD trues o 0) other → BodyWord query trues falses (bitAnd other (getD falses o 0)) w → ExplainedWord n query trues falses w
-explained-word n o query trues falses other w e q k b = record {
+-- The lanes of a contradiction, as the loop over the words gathers them.
+pub both-none : (trues falses : List ℕ) → BothLanes 0 trues falses 0
+unfolding lane flagsFrom valueBytes contradictory
+both-none trues falses = record { at = lane-none }
+
+pub both-more : (trues falses : List ℕ) (word o : ℕ) → BothLanes o trues falses word
+    → BothLanes (o + 1) trues falses (bitOr word (bitAnd (getD trues o 0) (getD falses o 0)))
+unfolding lane
+both-more trues falses word o b = record {
+  at = λ l.
+      lane-or l word (bitAnd (getD trues o 0) (getD falses o 0))
+      ∙ ap₂ _or_ (b .at l) (lane-and l (getD trues o 0) (getD falses o 0))
+      ∙ sym (contradictory-grown (λ i. inLane l (getD trues i 0)) (λ i. inLane l (getD falses i 0)) o);
+}
+
+pub explained-word : (n o : ℕ) (query trues falses : List ℕ) (other holding both consistent : ℕ) → o ≡ falsum n → Literals (judged n) query
+    → OtherLanes (getD trues o 0) other → BodyWord query trues falses (bitAnd other (getD falses o 0)) holding
+    → BothLanes (judged n) trues falses both → OtherLanes both consistent → ExplainedWord n query trues falses (bitAnd holding consistent)
+explained-word n o query trues falses other holding both consistent e q k b m c = record {
   at = λ l h.
-      b .in-lane (judged n) q l
+      lane-and l holding consistent
+      ∙ ap₂ _and_
+      (b .in-lane (judged n) q l
       ∙ ap (λ (x : Bool). x and bodyHolds (lane (judged n) l trues) (lane (judged n) l falses) query)
-      (lane-and l other (getD falses o 0) ∙ ap₂ _and_ (k .at l h ∙ ap not (there l trues)) (there l falses));
+      (lane-and l other (getD falses o 0) ∙ ap₂ _and_ (k .at l h ∙ ap not (there l trues)) (there l falses)))
+      (c .at l h ∙ ap not (m .at l));
 }
   where
     there : (l : ℕ) (words : List ℕ) → inLane l (getD words o 0) ≡ has (lane (judged n) l words) (falsum n)

@@ -14,7 +14,7 @@ use Rattle.papers.specs.Answers.{fileAnswer}
 use Rattle.papers.specs.Tests.{_and_}
 use Rattle.model.specs.Sets.{has}
 use Rattle.model.specs.LeastSet.{bodyHolds}
-use Rattle.model.specs.Model.{rounds, explains}
+use Rattle.model.specs.Model.{rounds, valueBytes, contradictory, explains}
 use Rattle.lanes.specs.Lanes.{inLane, lane}
 use Rattle.settling.specs.RoundLanes.{Decoded}
 
@@ -24,12 +24,17 @@ pub record DecodedPapers (file : List ℕ) (contents : Contents) (rules rule-vis
   pub decoded : Decoded (programIn file) rules rule-visits entries entry-visits
   pub asked : ValidBody ((programIn file) .atoms) query
 
--- The lanes in which falsum is false and not true, and each literal of the query holds.
+-- The lanes in which one of the first n literals is both true and false.
+pub record BothLanes (n : ℕ) (trues falses : List ℕ) (word : ℕ) : Type 0 where
+  pub at : (l : ℕ) → inLane l word ≡ contradictory (valueBytes (lane n l trues) (lane n l falses))
+
+-- The lanes in which falsum is false and not true, each literal of the query holds, and no judged literal is both.
 pub record ExplainedWord (n : ℕ) (query trues falses : List ℕ) (word : ℕ) : Type 0 where
   pub at : (l : ℕ) → l < 64
       → inLane l word
-      ≡ ((not (has (lane (judged n) l trues) (falsum n)) and has (lane (judged n) l falses) (falsum n))
+      ≡ (((not (has (lane (judged n) l trues) (falsum n)) and has (lane (judged n) l falses) (falsum n))
       and bodyHolds (lane (judged n) l trues) (lane (judged n) l falses) query)
+      and not (contradictory (valueBytes (lane (judged n) l trues) (lane (judged n) l falses))))
 
 -- Which of the scenarios base + l are explanations, and their round counts.
 pub record VerdictLanes (p : Program) (q : Query) (base word : ℕ) (counts : List ℕ) : Type 0 where

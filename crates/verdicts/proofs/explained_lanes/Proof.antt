@@ -1,10 +1,12 @@
 -- `verdicts::explained_lanes` meets its contract.
 -- Assumes nothing.
 use borrow.Author.Needs.{needs}
-use Prim.Native.Nat.{_<_}
+use mathlib.Core.Path.{subst}
+use Prim.Native.Nat.{ℕ, _<_}
 use native.Mathlib.Omega.{arith}
 use denote.Ref.{now}
 use Rattle.lanes.proofs.WordLaws.{literals-of}
+use Rattle.verdicts.specs.VerdictLanes.{BothLanes}
 use Rattle.verdicts.proofs.VerdictLaws.{explained-word}
 use Rattle.verdicts.proofs.explained_lanes.Statement.{statement}
 use Rattle.verdicts.proofs.explained_lanes.Tie as tie
@@ -35,13 +37,29 @@ body-word-requires c κs =
     let pre = c .before .before .before .before .before .pre in
     literals-of (omega (arith, pre .0)) (pre .1)
 
+judged-requires : tie.Need-judged-requires
+judged-requires c κs = search needs
+
+both-lanes-requires : tie.Need-both-lanes-requires
+both-lanes-requires c κs = omega (arith, c .judged .ensures, c .before .before .before .before .before .before .before .pre .0)
+
+other-lanes-requires-2 : tie.Need-other-lanes-requires-2
+other-lanes-requires-2 c κs = search needs
+
 returns : tie.Need-returns
 returns c =
-    let s = c .before .before .before .before .before .before in
+    let counted = c .before .before in
+    let asked = counted .before in
+    let found = asked .before .before .before .before in
+    let s = found .before .before in
     let a = s .args in
-    let falsum = c .before .before .before .before .falsum in
-    explained-word (a .atoms) (falsum .result .0) (now (a .query)) (now (a .trues)) (now (a .falses)) (c .before .before .other-lanes .result)
-    (c .body-word .result) (falsum .ensures) (s .pre .1) (c .before .before .other-lanes .ensures) (c .body-word .ensures)
+    let trues = now (a .trues) in
+    let falses = now (a .falses) in
+    let other = asked .before .before .other-lanes in
+    let both = subst (λ (n : ℕ). BothLanes n trues falses (c .before .both-lanes .result)) (counted .judged .ensures) (c .before .both-lanes .ensures) in
+    explained-word (a .atoms) (found .falsum .result .0) (now (a .query)) trues falses (other .result) (asked .body-word .result)
+    (c .before .both-lanes .result) (c .other-lanes2 .result) (found .falsum .ensures) (s .pre .1) (other .ensures) (asked .body-word .ensures) both
+    (c .other-lanes2 .ensures)
 
 pub explained-lanes-spec : {M : Type 1} → statement M
 explained-lanes-spec =
@@ -54,4 +72,7 @@ explained-lanes-spec =
     mul-lanes
     element-copy-out-lanes
     body-word-requires
+    judged-requires
+    both-lanes-requires
+    other-lanes-requires-2
     returns)
