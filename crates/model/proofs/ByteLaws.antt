@@ -126,6 +126,14 @@ module _ (p : Program) (s : ℕ) where
   unfolding modelBytes
   model-byte o h = let z = model-sized p s in bytes-at (model p s .trues) (model p s .falses) o (omega arith) (omega arith)
 
+  -- No literal of an explanation's model is both true and false.
+  pub explained-consistent : (q : Query) → explains p q s ≡ true → (o : ℕ) → getD (modelBytes p s) o 0 ≡ 3 → ⊥
+  unfolding explains explainsBy
+  explained-consistent q e o both =
+      let bytes = modelBytes p s in
+      let h = right (eqb (getD bytes (falsum (p .atoms)) 0) 2) _ (passes _ e) in
+      T-not (contradictory bytes) (right (queryHolds bytes q) _ h) (contradictory-at bytes o both)
+
   -- An explanation, by the sets: falsum false and not true, each literal of the query holding as a body's does, and no literal both.
   pub explains-is : {q : Query} → All (λ l. objectiveNumber l < judged (p .atoms)) q
       → explains p q s
@@ -142,11 +150,3 @@ module _ (p : Program) (s : ℕ) where
       (rw (bytes-at t f bottom (omega arith) (omega arith)) (byte-false _ _))
       (ap (λ (x : Bool). x and not (contradictory (valueBytes t f))) (query-body (judged (p .atoms)) t f (z .trues) (z .falses) h))
       ∙ sym (and-assoc (not (has t bottom) and has f bottom) (bodyHolds t f q) (not (contradictory (valueBytes t f))))
-
-  -- No literal of an explanation's model is both true and false.
-  pub explained-consistent : (q : Query) → explains p q s ≡ true → (o : ℕ) → getD (modelBytes p s) o 0 ≡ 3 → ⊥
-  unfolding explains explainsBy
-  explained-consistent q e o both =
-      let bytes = modelBytes p s in
-      let h = right (eqb (getD bytes (falsum (p .atoms)) 0) 2) _ (passes _ e) in
-      T-not (contradictory bytes) (right (queryHolds bytes q) _ h) (contradictory-at bytes o both)

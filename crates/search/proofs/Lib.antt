@@ -6,3 +6,5 @@ pub mod ContinueLaws
 pub mod ContinuedTold
 -- The pause theorem of `continue_search`.
 pub mod SearchPause
+-- No found scenario rests on a contradiction.
+pub mod NeverContradictory
