@@ -12,7 +12,8 @@
 //!   with falsity from the dual in [`falsity`];
 //! * "The search" is [`search`], and what the desk program prints [`mod@desk`].
 //!
-//! Of document 02, Card 1 is [`held`], which [`search`] goes by.
+//! Of document 02, Card 1 is [`held`], which [`search`] goes by, and Card 3 is
+//! [`Model::is_contradictory`], which [`Model::explains`] goes by.
 
 #![forbid(unsafe_code)]
 

@@ -1,5 +1,6 @@
 //! Scenarios and the model: Definitions 2.1 and 2.2 of document 000 as
-//! document 01 words them, and judging.
+//! document 01 words them, and judging, whose verdict Card 3 of document 02,
+//! "Explanations that rest on a contradiction", makes stricter.
 
 use crate::dual::dual;
 use crate::numbering::{Form, Literal, ObjectiveLiteral};
@@ -149,15 +150,26 @@ impl Model {
             .collect()
     }
 
-    /// Whether falsum's byte is 2 and each query literal holds.
+    /// "A scenario is an explanation exactly if falsum's byte is 2 and each query
+    /// literal holds" (document 01). "From now on a scenario with any model byte 3
+    /// is no explanation" (document 02, Card 3).
     pub fn explains(&self, query: &Query) -> bool {
         let falsum = ObjectiveLiteral::falsum(self.atoms);
         let mut literals = query.literals.iter();
-        self.byte(falsum) == 2 && literals.all(|&literal| self.holds(literal))
+        self.byte(falsum) == 2
+            && literals.all(|&literal| self.holds(literal))
+            && !self.is_contradictory()
     }
 
-    /// o: byte 1 or 3; not(o): byte 2 or 3.
-    fn holds(&self, literal: Literal) -> bool {
+    /// Whether any of the N model bytes is 3, falsum's and those of atoms that no
+    /// query touches among them.
+    pub fn is_contradictory(&self) -> bool {
+        self.bytes().contains(&3)
+    }
+
+    /// o: byte 1 or 3; not(o): byte 2 or 3. What holds by byte 3 holds, though the
+    /// scenario is no explanation.
+    pub fn holds(&self, literal: Literal) -> bool {
         match literal.form() {
             Form::Objective(objective) => matches!(self.byte(objective), 1 | 3),
             Form::Not(objective) => matches!(self.byte(objective), 2 | 3),

@@ -1,5 +1,8 @@
 //! The search.
 //!
+//! What an explanation is, [`crate::Model::explains`] alone says; a contradictory
+//! scenario is none, and its rounds count as those of any other.
+//!
 //! [`minimal_explanations`] and [`stopping_point`] are the definition: all
 //! explanations of that search first, then the minimal ones. Continuing goes by
 //! the general rule, which holds for any record that passes test 14; on a search

@@ -89,6 +89,18 @@ fn nothing_found_has_no_found_line() {
     assert_eq!(printed, expected);
 }
 
+/// The meter is both faulty and not faulty where the fuse is assumed.
+#[test]
+fn a_cause_that_rests_on_a_contradiction_is_not_shown() {
+    let atoms = "fuse valve faulty still";
+    let rules = "still :- fuse; still :- valve; -faulty; faulty :- fuse";
+    let program = program(atoms, "fuse valve", rules);
+    let expected = "atoms 4 abducibles 2 scenarios 9\n\
+        found 3 1+\n\
+        ended tried 9 rounds 15\n";
+    assert_eq!(printed(&program, &query(atoms, "still")), expected);
+}
+
 /// Eleven abducibles, each of which must be assumed or ruled out: 2^11 minimal
 /// explanations, all of whose digits are 1 or 2.
 fn all_decided() -> (Program, Query) {

@@ -4,14 +4,15 @@
 
 use plain::{
     continue_search, dual, encode_dual, encode_file, encode_sheet, explanations, judge,
-    minimal_explanations, minimal_of, scenario_count, stopping_point, ContinueRefusal, Continued,
-    Held, Program, Query, Record, Search, State,
+    minimal_explanations, minimal_of, model, scenario_count, stopping_point, ContinueRefusal,
+    Continued, Held, Program, Query, Record, Search, State,
 };
 use random::seed::seed;
 use random::Random;
 
 use crate::holding::{agrees, at_holding, fresh_holding, masks, none, Choice};
-use crate::programs::{are_above, program, query};
+use crate::programs::{are_above, program_to_search, query};
+use crate::verdict::is_barred_by_3;
 
 const PROGRAMS: usize = 3_000;
 /// Searches with held faults over each program.
@@ -29,6 +30,8 @@ struct Reached {
     /// Explanations that are tried in a later call than an entry whose
     /// assumptions they contain.
     not_minimal: usize,
+    /// Scenarios tried that a byte 3 alone bars.
+    barred: usize,
     several_minimal: usize,
     no_room: usize,
     one_scenario: usize,
@@ -48,6 +51,7 @@ impl Reached {
         assert!(are_above(floor, &calls), "{self:?}");
         assert!(are_above(floor, &entries), "{self:?}");
         assert!(are_above(floor_of_kinds, &kinds), "{self:?}");
+        assert!(self.barred > PROGRAMS / 2, "{self:?}");
     }
 
     fn of_held(&self) -> [usize; 3] {
@@ -63,6 +67,8 @@ struct FreshSearch {
     dual: Vec<u8>,
     explanations: Vec<u32>,
     minimal: Vec<u32>,
+    /// The scenarios that agree and that a byte 3 alone bars.
+    barred: Vec<u32>,
     stop: u32,
     scenarios: u32,
     /// The round count of each scenario, judged by a call of its own, and zero
@@ -94,6 +100,7 @@ impl FreshSearch {
             rounds: rounds.collect(),
             dual: encode_dual(&dual(program)),
             explanations: explanations(program, query, held),
+            barred: barred(program, query, held),
             stop: stopping_point(program, &minimal, length),
             scenarios,
             minimal,
@@ -180,6 +187,13 @@ impl FreshSearch {
     }
 }
 
+fn barred(program: &Program, query: &Query, held: Held) -> Vec<u32> {
+    let is_barred = |scenario| is_barred_by_3(&model(program, scenario).bytes(), query);
+    (0..scenario_count(program))
+        .filter(|&scenario| agrees(held, scenario) && is_barred(scenario))
+        .collect()
+}
+
 fn count(search: &FreshSearch, before: Record, continued: &Continued, reached: &mut Reached) {
     let after = continued.record;
     let tried = before.position..after.position;
@@ -190,6 +204,8 @@ fn count(search: &FreshSearch, before: Record, continued: &Continued, reached: &
         reached.not_minimal += search.explanations.iter().filter(is_not_minimal).count();
         reached.added_later += (after.found - before.found) as usize;
     }
+    let is_tried = |scenario: &&u32| tried.contains(scenario);
+    reached.barred += search.barred.iter().filter(is_tried).count();
     let is_not_agreeing = |&scenario: &u32| !agrees(search.held, scenario);
     reached.not_agreeing += tried.clone().filter(is_not_agreeing).count();
     match continued.state {
@@ -246,7 +262,7 @@ fn count_kind(search: &FreshSearch, of_none: &[u32], reached: &mut Reached) {
 fn go_through_programs(mut random: Random, searches: usize, choice: Choice) -> Reached {
     let mut reached = Reached::default();
     for _ in 0..PROGRAMS {
-        let program = program(&mut random, 4, 4);
+        let program = program_to_search(&mut random, 4, 4);
         let query = query(&mut random, &program);
         let of_none = explanations(&program, &query, Held::NONE);
         for _ in 0..searches {

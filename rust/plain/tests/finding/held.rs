@@ -14,17 +14,13 @@ use plain::{
 
 use crate::example::FILE;
 use crate::hand::bytes;
-use crate::holding::{at_holding, fresh_holding};
+use crate::holding::{at_holding, fresh_holding, held};
 use crate::lent::{continue_refused, continued};
 use crate::text::{loaded, program, query};
 
 /// The bits of the first and the second abducible.
 const A: u16 = 0b01;
 const B: u16 = 0b10;
-
-fn held(assumed: u16, ruled: u16) -> Held {
-    Held { assumed, ruled }
-}
 
 fn not_p4() -> (Program, Query) {
     loaded(&OF_NOT_P4.program, OF_NOT_P4.query)

@@ -3,6 +3,11 @@
 use plain::{encode_file, Held, Program, Record};
 use random::Random;
 
+/// The faults held by these masks.
+pub fn held(assumed: u16, ruled: u16) -> Held {
+    Held { assumed, ruled }
+}
+
 /// A fresh search over the program that holds these faults.
 pub fn fresh_holding(program: &Program, held: Held) -> Record {
     let record = plain::fresh(&encode_file(program), held.assumed, held.ruled);

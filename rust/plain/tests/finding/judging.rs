@@ -1,7 +1,9 @@
 //! Judging, by hand.
 
 use calls::lent::pattern;
-use plain::{contains_assumptions, digits, judge, Digit, JudgeRefusal, Number, Paper, Refusal};
+use plain::{
+    contains_assumptions, digits, judge, model, Digit, JudgeRefusal, Number, Paper, Query, Refusal,
+};
 
 use crate::example::{FILE, SHEET};
 use crate::hand::bytes;
@@ -112,23 +114,57 @@ fn rounds_are_counted_to_the_first_that_repeats() {
     assert_eq!(rounds_of("p", "", "p; -p"), 2);
 }
 
+/// Falsum is undefined, false, true in the scenarios, and of the atoms u is
+/// undefined.
+const WITHOUT_CONTRADICTION: &str = "p :- a; u :- not u; b; falsum :- not a, -a";
+
 #[test]
 fn an_explanation_needs_falsum_false_and_each_query_literal() {
     let atoms = "a p u b";
-    let rules = "p :- a; u :- not u; b; -b; falsum :- not a, -a";
-    let program = program(atoms, "a", rules);
+    let program = program(atoms, "a", WITHOUT_CONTRADICTION);
     let explains = |text, scenario| judged(&program, &query(atoms, text), scenario).0.explains;
-    // Falsum is undefined, false, true.
     for (scenario, verdict) in [(0, false), (1, true), (2, false)] {
         assert_eq!(explains("", scenario), verdict);
     }
-    for holds in ["p", "not -p", "a, p, not -u", "b", "not b", "b, not b, -b"] {
+    for holds in ["p", "not -p", "a, p, not -u", "b", "not -b", "b, not -b, p"] {
         assert!(explains(holds, 1), "{holds}");
+    }
+    for fails in [
+        "u", "not u", "-p", "not p", "p, u", "u, p", "not a", "b, -u", "-b", "not b",
+    ] {
+        assert!(!explains(fails, 1), "{fails}");
+    }
+}
+
+#[test]
+fn a_literal_holds_by_byte_3_too_and_only_the_verdict_bars_it() {
+    let atoms = "a p u b";
+    let rules = ["-b", WITHOUT_CONTRADICTION].join("; ");
+    let program = program(atoms, "a", &rules);
+    let model = model(&program, 1);
+    assert_eq!(model.bytes(), [1, 2, 1, 2, 0, 2, 3, 3, 2]);
+    let hold = |query: &Query| query.literals.iter().all(|&literal| model.holds(literal));
+    for holds in [
+        "",
+        "p",
+        "not -p",
+        "a, p, not -u",
+        "b",
+        "not b",
+        "-b",
+        "not -b",
+        "b, not b, -b",
+    ] {
+        let query = query(atoms, holds);
+        assert!(hold(&query), "{holds}");
+        assert!(!judged(&program, &query, 1).0.explains, "{holds}");
     }
     for fails in [
         "u", "not u", "-p", "not p", "p, u", "u, p", "not a", "b, -u",
     ] {
-        assert!(!explains(fails, 1), "{fails}");
+        let query = query(atoms, fails);
+        assert!(!hold(&query), "{fails}");
+        assert!(!judged(&program, &query, 1).0.explains, "{fails}");
     }
 }
 

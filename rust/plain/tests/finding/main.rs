@@ -2,7 +2,7 @@
 //!
 //! The first modules are what the others use: the example of document 01, bytes
 //! by hand, records and masks, calls that check what must stay in lent buffers,
-//! random programs, and programs as text.
+//! random programs, programs as text, and what an explanation is by the bytes.
 
 #[path = "../example/mod.rs"]
 mod example;
@@ -12,7 +12,9 @@ mod holding;
 mod lent;
 mod programs;
 mod text;
+mod verdict;
 
+mod contradiction;
 mod desk;
 mod edges;
 mod falsity;

@@ -14,7 +14,7 @@ use random::seed::seed;
 use random::Random;
 
 use crate::holding::{agrees, at_holding, masks, none, Choice};
-use crate::programs::{are_above, program, query};
+use crate::programs::{are_above, program_to_search, query};
 
 const PROGRAMS: usize = 2_000;
 const RECORDS: usize = 30;
@@ -192,7 +192,7 @@ fn compare(random: &mut Random, search: &mut Search, choice: Choice, reached: &m
 fn compare_all(mut random: Random, records: usize, choice: Choice) -> Reached {
     let mut reached = Reached::default();
     for _ in 0..PROGRAMS {
-        let program = program(&mut random, 4, 4);
+        let program = program_to_search(&mut random, 4, 4);
         let query = query(&mut random, &program);
         let mut search = Search::keeping(program, query);
         for _ in 0..records {
