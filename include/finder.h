@@ -76,7 +76,9 @@ void finder_write_dual(const uint8_t *file, size_t file_len,
  * Reads both papers, the file first, and judges the scenario. Writes the dual
  * of the file to the start of the dual buffer and the model to the start of
  * the model buffer: a byte for each of the N judged literals, 0 undefined,
- * 1 true, 2 false, 3 both.
+ * 1 true, 2 false, 3 both. The scenario is an explanation if falsum's byte, the
+ * last, is 2, each literal of the query holds (a literal o by byte 1 or 3,
+ * not(o) by 2 or 3), and none of the N bytes is 3.
  *
  *   slot  paper refused            11, 12 or 13   scenario judged
  *   0     the refusal number,      11 short dual  0
@@ -137,7 +139,8 @@ void finder_fresh(const uint8_t *file, size_t file_len,
  *
  * A scenario whose digit at a held fault is not the held one (1 assumed, 2
  * ruled out; 0 is neither) counts as tried, with zero rounds, and is no
- * explanation of that search.
+ * explanation of that search. One whose model has a byte 3 is none either, as
+ * finder_judge says, and counts as tried with its rounds.
  *
  *   slot  paper refused            11 or 14           search continued
  *   0     the refusal number,      11 short dual      0

@@ -43,12 +43,28 @@ pub const JUDGINGS: &[Judging] = &[
         dual_length: 4 * 7 + (2 * 11 + 2 * 9) + 5 * 5 + 3,
     },
     OF_CONTRADICTION,
+    OF_CONTRADICTION_ALONE,
+    // A byte 3 of an atom that the query does not touch, or touches by not.
     Judging {
-        program: CONTRADICTION_ALONE,
+        query: "a",
+        ..OF_CONTRADICTION_ALONE
+    },
+    Judging {
+        query: "not d",
+        ..OF_CONTRADICTION_ALONE
+    },
+    Judging {
+        query: "",
+        ..OF_CONTRADICTION_ALONE
+    },
+    // With a ruled out nothing is both.
+    Judging {
+        query: "-d",
+        scenario: 2,
         explains: true,
-        model: &[1, 2, 3, 3, 2],
-        dual_length: (7 + 7) + 5 + 3,
-        ..OF_CONTRADICTION
+        rounds: 1,
+        model: &[2, 1, 2, 1, 2],
+        ..OF_CONTRADICTION_ALONE
     },
     Judging {
         program: DESK,
@@ -80,4 +96,12 @@ const OF_CONTRADICTION: Judging = Judging {
     rounds: 2,
     model: &[1, 2, 3, 3, 3],
     dual_length: (7 + 7) + (7 + 9) + 3,
+};
+
+/// Falsum is 2 and d holds, and so it was an explanation before Card 3.
+const OF_CONTRADICTION_ALONE: Judging = Judging {
+    program: CONTRADICTION_ALONE,
+    model: &[1, 2, 3, 3, 2],
+    dual_length: (7 + 7) + 5 + 3,
+    ..OF_CONTRADICTION
 };

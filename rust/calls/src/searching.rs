@@ -43,6 +43,10 @@ pub const SEARCHINGS: &[Searching] = &[
     searching(P3, "p3", 1, &[]),
     searching(P3, "not p3", 1, &[]),
     searching(CONTRADICTION, "d", 3, &[]),
-    searching(CONTRADICTION_ALONE, "d", 3, &[1]),
+    // Card 3: the one scenario that makes d true makes it false as well.
+    searching(CONTRADICTION_ALONE, "d", 3, &[]),
+    searching(CONTRADICTION_ALONE, "a", 3, &[]),
+    searching(CONTRADICTION_ALONE, "-d", 3, &[0]),
+    searching(CONTRADICTION_ALONE, "-d, -a", 3, &[2]),
     OF_DESK,
 ];

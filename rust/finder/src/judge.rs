@@ -6,7 +6,8 @@ use crate::refusal::Refusal;
 /// The answer of judging.
 #[derive(Clone, Copy, Debug, PartialEq, Eq)]
 pub struct Judgement {
-    /// Whether the scenario is an explanation.
+    /// Whether the scenario is an explanation: falsum's byte is 2, each query
+    /// literal holds, and no byte of the model is 3.
     pub explains: bool,
     pub rounds: u64,
 }
