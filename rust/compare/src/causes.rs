@@ -6,9 +6,22 @@ use random::Random;
 
 use crate::programs::{fails, heads, holds, some_atoms};
 
+/// What makes a program with so many abducibles and other atoms.
+pub type Causes = fn(&mut Random, usize, usize) -> Program;
+
 /// A program with so many abducibles and other atoms. Of the latter there is at
 /// least one.
 pub fn causes(random: &mut Random, abducibles: usize, others: usize) -> Program {
+    program(random, abducibles, others, true)
+}
+
+/// The same with rules for but one of an atom and its negation: nothing in it is
+/// both true and false, so more of it explains.
+pub fn consistent_causes(random: &mut Random, abducibles: usize, others: usize) -> Program {
+    program(random, abducibles, others, false)
+}
+
+fn program(random: &mut Random, abducibles: usize, others: usize, can_contradict: bool) -> Program {
     let atoms = (abducibles + others) as u16;
     let mut program = Program {
         atoms,
@@ -16,8 +29,12 @@ pub fn causes(random: &mut Random, abducibles: usize, others: usize) -> Program 
         rules: vec![],
         integrity_bodies: vec![],
     };
-    let heads = heads(atoms, &program.abducibles);
-    for _ in 0..random.below(2 * heads.len() + 1) {
+    let mut heads = heads(atoms, &program.abducibles);
+    let most_rules = 2 * heads.len();
+    if !can_contradict {
+        heads = one_of_each_pair(random, &heads);
+    }
+    for _ in 0..random.below(most_rules + 1) {
         let head = random.pick(&heads);
         let body = body(random, &program, 3);
         program.rules.push(Rule { head, body });
@@ -28,7 +45,7 @@ pub fn causes(random: &mut Random, abducibles: usize, others: usize) -> Program 
     if random.one_in(2) {
         add_chain(random, &mut program, &heads);
     }
-    if random.one_in(2) {
+    if can_contradict && random.one_in(2) {
         add_conjugates(random, &mut program, &heads);
     }
     random.shuffle(&mut program.rules);
@@ -37,6 +54,12 @@ pub fn causes(random: &mut Random, abducibles: usize, others: usize) -> Program 
         program.integrity_bodies.push(body);
     }
     program
+}
+
+/// Of an atom and its negation, which stand side by side, the one or the other.
+fn one_of_each_pair(random: &mut Random, heads: &[ObjectiveLiteral]) -> Vec<ObjectiveLiteral> {
+    let pairs = heads.chunks_exact(2);
+    pairs.map(|pair| random.pick(pair)).collect()
 }
 
 /// A query, most often for heads of rules.
@@ -132,20 +155,40 @@ fn either(random: &mut Random, objective: ObjectiveLiteral) -> Literal {
 #[cfg(test)]
 mod tests {
     use super::*;
-    use plain::{encode_file, encode_sheet, read_papers};
+    use plain::{encode_file, encode_sheet, model, read_papers, scenario_count};
     use random::seed::seed;
 
     #[test]
     fn their_papers_are_accepted() {
         let mut random = Random::new(seed(6));
-        for round in 0..2_000 {
-            let abducibles = round % 17;
+        for round in 0..4_000 {
+            let abducibles = round / 2 % 17;
             let others = random.between(1, 5);
-            let program = causes(&mut random, abducibles, others);
+            let make = [causes, consistent_causes][round % 2];
+            let program = make(&mut random, abducibles, others);
             assert_eq!(program.abducibles.len(), abducibles);
             let query = query_of_heads(&mut random, &program);
             let (file, sheet) = (encode_file(&program), encode_sheet(&query));
             assert_eq!(read_papers(&file, &sheet), Ok((program, query)));
         }
+    }
+
+    /// In how many of 1,000 programs something is both true and false.
+    fn contradictory(make: Causes) -> usize {
+        let mut random = Random::new(seed(16));
+        let is_contradictory = |_: &usize| {
+            let (abducibles, others) = (random.below(4), random.between(1, 5));
+            let program = make(&mut random, abducibles, others);
+            let mut scenarios = 0..scenario_count(&program);
+            scenarios.any(|scenario| model(&program, scenario).bytes().contains(&3))
+        };
+        (0..1_000).filter(is_contradictory).count()
+    }
+
+    #[test]
+    fn they_contradict_themselves_or_never_do() {
+        assert_eq!(contradictory(consistent_causes), 0);
+        let count = contradictory(causes);
+        assert!(count > 300, "{count} contradict themselves");
     }
 }

@@ -3,7 +3,7 @@
 
 use plain::{JudgeRefusal, Paper};
 
-use crate::judged::{Judged, JUDGED};
+use crate::judged::{Judged, CONTRADICTED, JUDGED};
 use crate::tally::{Counted, Feature, Numbers, Tally, OF_FILE, OF_SHEET};
 
 /// What is lent with accepted papers, beside what must be.
@@ -71,6 +71,9 @@ const LENT: &[Feature<Lending>] = &[
     }),
 ];
 
+/// So many scenarios that a byte 3 alone bars must be judged.
+const LEAST_CONTRADICTED: u64 = 1_000;
+
 /// How often each answer came.
 pub struct JudgeCoverage {
     file: Numbers,
@@ -78,6 +81,7 @@ pub struct JudgeCoverage {
     call: Numbers,
     lent: Tally<Lending>,
     judged: Tally<Judged>,
+    contradicted: Tally<Judged>,
 }
 
 impl Default for JudgeCoverage {
@@ -88,6 +92,11 @@ impl Default for JudgeCoverage {
             call: Numbers::new("judging refused", [11, 12, 13]),
             lent: Tally::new("calls with accepted papers", LENT),
             judged: Tally::new("scenarios judged", JUDGED),
+            contradicted: Tally::of_at_least(
+                LEAST_CONTRADICTED,
+                "scenarios that a byte 3 alone bars",
+                CONTRADICTED,
+            ),
         }
     }
 }
@@ -109,6 +118,9 @@ impl JudgeCoverage {
 
     pub fn count_judged(&mut self, judged: &Judged) {
         self.judged.count(judged);
+        if judged.is_contradicted() {
+            self.contradicted.count(judged);
+        }
     }
 
     /// How many scenarios were judged.
@@ -116,13 +128,14 @@ impl JudgeCoverage {
         self.judged.subjects()
     }
 
-    pub fn parts(&self) -> [&dyn Counted; 5] {
+    pub fn parts(&self) -> [&dyn Counted; 6] {
         [
             &self.file,
             &self.sheet,
             &self.call,
             &self.lent,
             &self.judged,
+            &self.contradicted,
         ]
     }
 }
@@ -134,9 +147,13 @@ mod tests {
     #[test]
     fn what_never_came_is_complained_of() {
         let numbers = 10 + 5 + 3;
-        let features = LENT.len() + JUDGED.len();
+        let features = LENT.len() + JUDGED.len() + CONTRADICTED.len();
+        let too_few = 1;
         let coverage = JudgeCoverage::default();
         let complaints = coverage.parts().map(|part| part.complaints().len());
-        assert_eq!(complaints.iter().sum::<usize>(), numbers + features);
+        assert_eq!(
+            complaints.iter().sum::<usize>(),
+            numbers + features + too_few
+        );
     }
 }

@@ -23,33 +23,63 @@ const TRUE: u8 = 1;
 const FALSE: u8 = 2;
 const BOTH: u8 = 3;
 
+fn byte(model: &[u8], literal: ObjectiveLiteral) -> u8 {
+    model[usize::from(literal.0)]
+}
+
+fn is_true(model: &[u8], literal: ObjectiveLiteral) -> bool {
+    [TRUE, BOTH].contains(&byte(model, literal))
+}
+
+fn is_false(model: &[u8], literal: ObjectiveLiteral) -> bool {
+    [FALSE, BOTH].contains(&byte(model, literal))
+}
+
+fn query_holds(query: &Query, model: &[u8]) -> bool {
+    let mut forms = query.literals.iter().map(|literal| literal.form());
+    forms.all(|form| match form {
+        Form::Objective(objective) => is_true(model, objective),
+        Form::Not(objective) => is_false(model, objective),
+    })
+}
+
+/// Whether a byte 3 alone keeps a scenario with such a model from being an
+/// explanation. Before Card 3 it was one.
+pub fn is_contradicted(query: &Query, model: &[u8]) -> bool {
+    model.last() == Some(&FALSE) && query_holds(query, model) && model.contains(&BOTH)
+}
+
 impl Judged {
     fn is_true(&self, literal: ObjectiveLiteral) -> bool {
-        [TRUE, BOTH].contains(&self.byte(literal))
+        is_true(&self.model, literal)
     }
 
     fn is_false(&self, literal: ObjectiveLiteral) -> bool {
-        [FALSE, BOTH].contains(&self.byte(literal))
+        is_false(&self.model, literal)
     }
 
     fn byte(&self, literal: ObjectiveLiteral) -> u8 {
-        self.model[usize::from(literal.0)]
+        byte(&self.model, literal)
     }
 
     fn falsum(&self) -> u8 {
         self.byte(ObjectiveLiteral::falsum(self.program.atoms))
     }
 
-    fn holds(&self, literal: &Literal) -> bool {
-        match literal.form() {
-            Form::Objective(objective) => self.is_true(objective),
-            Form::Not(objective) => self.is_false(objective),
-        }
+    fn query_holds(&self) -> bool {
+        query_holds(&self.query, &self.model)
     }
 
-    fn query_holds(&self) -> bool {
-        let mut literals = self.query.literals.iter();
-        literals.all(|literal| self.holds(literal))
+    pub fn is_contradicted(&self) -> bool {
+        is_contradicted(&self.query, &self.model)
+    }
+
+    /// Whether one of the two literals of an atom is both.
+    fn is_atom_both(&self, atom: u16) -> bool {
+        [2 * atom, 2 * atom + 1]
+            .map(ObjectiveLiteral)
+            .iter()
+            .any(|&literal| self.byte(literal) == BOTH)
     }
 
     /// Whether some literal that is neither abducible nor falsum is so.
@@ -155,20 +185,6 @@ pub const JUDGED: &[Feature<Judged>] = &[
     ("a negated atom false by its atom alone", |it| {
         it.is_false_by_conjugate_alone(is_negation)
     }),
-    ("an explanation by a literal that is both", |it| {
-        let objective = |form| match form {
-            Form::Objective(objective) => Some(objective),
-            Form::Not(_) => None,
-        };
-        it.judgement.explains && it.asks_for_both(objective)
-    }),
-    ("an explanation by not of a literal that is both", |it| {
-        let objective = |form| match form {
-            Form::Objective(_) => None,
-            Form::Not(objective) => Some(objective),
-        };
-        it.judgement.explains && it.asks_for_both(objective)
-    }),
     ("a query that holds while falsum is undefined", |it| {
         it.query_holds() && it.falsum() == UNDEFINED
     }),
@@ -198,6 +214,51 @@ pub const JUDGED: &[Feature<Judged>] = &[
         let mut folds = it.program.folds();
         folds.any(|(_, _, body)| body.len() == MOST_LITERALS)
     }),
+];
+
+/// What a scenario can have that a byte 3 alone keeps from being an explanation.
+pub const CONTRADICTED: &[Feature<Judged>] = &[
+    ("a query for a literal that is both", |it| {
+        it.asks_for_both(|form| match form {
+            Form::Objective(objective) => Some(objective),
+            Form::Not(_) => None,
+        })
+    }),
+    ("a query for not of a literal that is both", |it| {
+        it.asks_for_both(|form| match form {
+            Form::Objective(_) => None,
+            Form::Not(objective) => Some(objective),
+        })
+    }),
+    ("a query for others alone", |it| {
+        !it.query.literals.is_empty()
+            && !it.asks_for_both(|form| match form {
+                Form::Objective(objective) | Form::Not(objective) => Some(objective),
+            })
+    }),
+    ("an empty query", |it| it.query.literals.is_empty()),
+    ("a literal both whose conjugate is not true", |it| {
+        it.has(|literal| {
+            let conjugate = literal.conjugate(it.program.atoms);
+            it.byte(literal) == BOTH && !conjugate.is_some_and(|other| it.is_true(other))
+        })
+    }),
+    ("one atom both", |it| {
+        (0..it.program.atoms)
+            .filter(|&atom| it.is_atom_both(atom))
+            .count()
+            == 1
+    }),
+    ("the first of several atoms both", |it| {
+        it.program.atoms > 1 && it.is_atom_both(0)
+    }),
+    ("the last of several atoms both", |it| {
+        it.program.atoms > 1 && it.is_atom_both(it.program.atoms - 1)
+    }),
+    ("an integrity rule", |it| {
+        !it.program.integrity_bodies.is_empty()
+    }),
+    ("an abducible assumed or ruled out", |it| it.scenario > 0),
 ];
 
 #[cfg(test)]
@@ -274,5 +335,38 @@ mod tests {
             "an abducible assumed",
         ];
         assert_eq!(names, expected);
+        assert!(!it.is_contradicted(), "falsum is both");
+    }
+
+    #[test]
+    fn what_a_byte_3_alone_bars() {
+        let features = |query, rules, scenario| {
+            let it = judged("a d e", "a", rules, query, scenario);
+            let had = CONTRADICTED.iter().filter(|(_, has)| has(&it));
+            let names: Vec<&str> = had.map(|&(name, _)| name).collect();
+            it.is_contradicted().then_some(names)
+        };
+        let (alone, chained) = ("d :- a; -d; e", "d :- a; -d; e :- not d");
+        let (objective, negated) = (CONTRADICTED[0].0, CONTRADICTED[1].0);
+        let (others, empty) = (CONTRADICTED[2].0, CONTRADICTED[3].0);
+        let (one, assumed) = ("one atom both", "an abducible assumed or ruled out");
+        assert_eq!(features("d", alone, 1), Some(vec![objective, one, assumed]));
+        assert_eq!(
+            features("not d", alone, 1),
+            Some(vec![negated, one, assumed])
+        );
+        assert_eq!(features("e", alone, 1), Some(vec![others, one, assumed]));
+        assert_eq!(features("", alone, 1), Some(vec![empty, one, assumed]));
+        let unpaired = "a literal both whose conjugate is not true";
+        let last = "the last of several atoms both";
+        assert_eq!(
+            features("", chained, 1),
+            Some(vec![empty, unpaired, last, assumed])
+        );
+        for barred_anyway in ["-e", "not a", "not e"] {
+            assert_eq!(features(barred_anyway, alone, 1), None);
+        }
+        assert_eq!(features("", alone, 0), None);
+        assert_eq!(features("", alone, 2), None);
     }
 }

@@ -9,6 +9,46 @@ use crate::searches::{Papers, Went, LANES};
 use crate::spoilt::{Spoilt, SPOILT};
 use crate::tally::{Counted, Feature, Numbers, Tally, OF_FILE, OF_SHEET};
 
+/// How many of those tried in a call were not added, though nothing but one thing
+/// was against them.
+#[derive(Default)]
+struct Barred {
+    /// Explanations that contain an entry listed before the call, and those that
+    /// contain but entries that the call added.
+    by_earlier: u32,
+    by_added: u32,
+    /// Those that a byte 3 alone bars, and which of these would have found the
+    /// list full.
+    by_contradiction: u32,
+    stops_by_contradiction: u32,
+}
+
+impl Barred {
+    fn new(papers: &mut Papers, went: &Went) -> Self {
+        let held = went.record.held();
+        let mut barred = Barred::default();
+        for scenario in went.tried() {
+            let found = went.found();
+            let before = &found[..found.partition_point(|&entry| entry < scenario)];
+            let is_new = !contains_one_of(scenario, before);
+            if papers.explains(held, scenario) {
+                let is_earlier = contains_one_of(scenario, went.listed());
+                barred.by_earlier += u32::from(is_earlier);
+                barred.by_added += u32::from(!is_earlier && !is_new);
+            } else if is_new && papers.is_contradicted(held, scenario) {
+                barred.by_contradiction += 1;
+                barred.stops_by_contradiction += u32::from(before.len() == went.after.len());
+            }
+        }
+        barred
+    }
+}
+
+fn contains_one_of(scenario: u32, entries: &[u32]) -> bool {
+    let mut entries = entries.iter();
+    entries.any(|&entry| contains_assumptions(scenario, entry))
+}
+
 /// A call that was accepted.
 pub struct Call {
     /// 3^k.
@@ -19,10 +59,7 @@ pub struct Call {
     record: Record,
     allowance: u32,
     continued: Continued,
-    /// How many explanations were tried and not added for an entry that was
-    /// listed before the call, and for those that the call added alone.
-    barred_by_earlier: u32,
-    barred_by_added: u32,
+    barred: Barred,
     /// Whether the new position is the stopping point and not 3^k.
     is_at_stop: bool,
 }
@@ -32,23 +69,7 @@ impl Call {
         let Went {
             record, continued, ..
         } = *went;
-        let held = record.held();
-        let (listed, found) = (went.listed(), went.found());
-        let contains_one_of = |scenario: u32, entries: &[u32]| {
-            let mut entries = entries.iter();
-            entries.any(|&entry| contains_assumptions(scenario, entry))
-        };
-        let end = continued.record.position;
-        let (mut barred_by_earlier, mut barred_by_added) = (0, 0);
-        for scenario in record.position..end {
-            if papers.explains(held, scenario) && !found.contains(&scenario) {
-                if contains_one_of(scenario, listed) {
-                    barred_by_earlier += 1;
-                } else {
-                    barred_by_added += 1;
-                }
-            }
-        }
+        let (found, end) = (went.found(), continued.record.position);
         Call {
             scenarios: papers.scenarios,
             list_length: went.after.len(),
@@ -56,11 +77,10 @@ impl Call {
             record,
             allowance: went.allowance,
             continued,
-            barred_by_earlier,
-            barred_by_added,
+            barred: Barred::new(papers, went),
             is_at_stop: end < papers.scenarios
                 && found.len() == went.after.len()
-                && papers.explains(held, end)
+                && papers.explains(record.held(), end)
                 && !contains_one_of(end, found),
         }
     }
@@ -115,10 +135,19 @@ const CALLS: &[Feature<Call>] = &[
         it.record.found > 0 && it.added() > 0
     }),
     ("an explanation barred by an earlier entry", |it| {
-        it.barred_by_earlier > 0
+        it.barred.by_earlier > 0
     }),
     ("an explanation barred by an added entry", |it| {
-        it.barred_by_added > 0
+        it.barred.by_added > 0
+    }),
+    ("one that would be added but for a byte 3", |it| {
+        it.barred.by_contradiction > 0
+    }),
+    ("several of these and an entry added", |it| {
+        it.barred.by_contradiction > 1 && it.added() > 0
+    }),
+    ("one that would find the list full but for a byte 3", |it| {
+        it.barred.stops_by_contradiction > 0
     }),
     ("full at once", |it| {
         it.is(State::Full) && it.continued.tried == 0

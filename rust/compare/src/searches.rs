@@ -1,15 +1,17 @@
 //! Random searches: their papers, the faults that they hold, what each call is
 //! allowed and lent, and records that were not reached from a fresh search.
 
+use std::collections::HashMap;
 use std::ops::Range;
 
 use plain::{
-    dual, encode_dual, encode_file, encode_sheet, scenario_count, Continued, Held, Program, Query,
-    Record, Search,
+    dual, encode_dual, encode_file, encode_sheet, model, scenario_count, Continued, Held, Program,
+    Query, Record, Search,
 };
 use random::Random;
 
-use crate::causes::{causes, query_of_heads};
+use crate::causes::{causes, query_of_heads, Causes};
+use crate::judged::is_contradicted;
 use crate::masks::{self, Asked};
 
 /// Papers that are accepted.
@@ -21,11 +23,16 @@ pub struct Papers {
     /// k, and 3^k.
     pub abducibles: usize,
     pub scenarios: u32,
+    query: Query,
+    /// Whether a byte 3 alone bars them, of the scenarios that were asked for.
+    contradicted: HashMap<u32, bool>,
 }
 
 impl Papers {
     pub fn new(program: Program, query: Query) -> Self {
         Papers {
+            query: query.clone(),
+            contradicted: HashMap::new(),
             file: encode_file(&program),
             sheet: encode_sheet(&query),
             dual_length: encode_dual(&dual(&program)).len(),
@@ -43,22 +50,23 @@ impl Papers {
         Papers::new(program, query)
     }
 
-    /// Those of a file all of whose scenarios can be judged.
-    pub fn searchable(random: &mut Random) -> Self {
+    /// Those of a file all of whose scenarios can be judged, with a program that
+    /// is made so.
+    pub fn searchable(random: &mut Random, make: Causes) -> Self {
         let abducibles = random.pick(&[0, 1, 1, 2, 2, 3, 3, 3, 4, 4, 4, 4, 4, 5, 5, 5]);
         let more = usize::from(random.one_in(8)) + usize::from(random.one_in(64));
-        Papers::with_abducibles(random, abducibles + more)
+        Papers::with_abducibles(random, abducibles + more, make)
     }
 
     /// Those of a file with more scenarios.
     pub fn wide(random: &mut Random) -> Self {
         let abducibles = random.pick(&[9, 10, 11, 12, 13, 14, 15, 16, 16]);
-        Papers::with_abducibles(random, abducibles)
+        Papers::with_abducibles(random, abducibles, causes)
     }
 
-    fn with_abducibles(random: &mut Random, abducibles: usize) -> Self {
+    fn with_abducibles(random: &mut Random, abducibles: usize, make: Causes) -> Self {
         let others = random.between(1, 5);
-        let program = causes(random, abducibles, others);
+        let program = make(random, abducibles, others);
         let query = query_of_heads(random, &program);
         Papers::new(program, query)
     }
@@ -75,6 +83,13 @@ impl Papers {
     /// Whether the scenario is an explanation of a search that holds these.
     pub fn explains(&mut self, held: Held, scenario: u32) -> bool {
         held.agrees(scenario) && self.search.judgement(scenario).explains
+    }
+
+    /// Whether a byte 3 alone keeps the scenario from being one.
+    pub fn is_contradicted(&mut self, held: Held, scenario: u32) -> bool {
+        let (program, query) = (self.search.program(), &self.query);
+        let judge = || is_contradicted(query, &model(program, scenario).bytes());
+        held.agrees(scenario) && *self.contradicted.entry(scenario).or_insert_with(judge)
     }
 
     /// From 0 on; often about as many entries as there are to find.
@@ -334,7 +349,7 @@ mod tests {
         let mut random = Random::new(seed(9));
         let mut spoilt = 0;
         for _ in 0..2_000 {
-            let papers = Papers::searchable(&mut random);
+            let papers = Papers::searchable(&mut random, causes);
             let mut any = AnyRecord::sound(&mut random, &papers);
             assert!(!is_spoilt(&papers, &any));
             any.spoil(&mut random, &papers);
@@ -348,7 +363,7 @@ mod tests {
     fn a_scenario_that_is_to_agree_does() {
         let mut random = Random::new(seed(14));
         for _ in 0..2_000 {
-            let papers = Papers::searchable(&mut random);
+            let papers = Papers::searchable(&mut random, causes);
             let held = papers.some_held(&mut random);
             let scenario = papers.an_agreeing_scenario(&mut random, held);
             assert!(scenario < papers.scenarios && held.agrees(scenario));

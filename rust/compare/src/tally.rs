@@ -19,6 +19,8 @@ pub type Feature<S> = (&'static str, fn(&S) -> bool);
 pub struct Tally<S: 'static> {
     heading: &'static str,
     features: &'static [Feature<S>],
+    /// How many subjects there must be.
+    least: u64,
     subjects: u64,
     counts: Vec<u64>,
 }
@@ -28,8 +30,17 @@ impl<S> Tally<S> {
         Tally {
             heading,
             features,
+            least: 0,
             subjects: 0,
             counts: vec![0; features.len()],
+        }
+    }
+
+    /// One that must have so many subjects.
+    pub fn of_at_least(least: u64, heading: &'static str, features: &'static [Feature<S>]) -> Self {
+        Tally {
+            least,
+            ..Tally::new(heading, features)
         }
     }
 
@@ -50,7 +61,12 @@ impl<S> Counted for Tally<S> {
     fn complaints(&self) -> Vec<String> {
         let counts = self.counts.iter().zip(self.features);
         let rare = counts.filter(|(&count, _)| count < LEAST);
-        rare.map(|(count, (name, _))| format!("only {count} times: {} with {name}", self.heading))
+        let heading = self.heading;
+        let few = (self.subjects < self.least).then(|| format!("only {} {heading}", self.subjects));
+        few.into_iter()
+            .chain(
+                rare.map(|(count, (name, _))| format!("only {count} times: {heading} with {name}")),
+            )
             .collect()
     }
 }
@@ -131,6 +147,17 @@ mod tests {
             "numbers 1000\n    with an even number: 500\n    with seven: 1\n"
         );
         assert_eq!(tally.complaints(), ["only 1 times: numbers with seven"]);
+    }
+
+    #[test]
+    fn too_few_subjects_are_complained_of() {
+        let mut tally = Tally::of_at_least(1_000, "numbers", &FEATURES[..1]);
+        for number in 0..999 {
+            tally.count(&number);
+        }
+        assert_eq!(tally.complaints(), ["only 999 numbers"]);
+        tally.count(&0);
+        assert_eq!(tally.complaints(), [""; 0]);
     }
 
     #[test]

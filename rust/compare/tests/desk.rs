@@ -3,7 +3,7 @@
 //!
 //! `rt check desk` builds it; the gate does so before the tests.
 
-use compare::causes::{causes, query_of_heads};
+use compare::causes::{causes, consistent_causes, query_of_heads, Causes};
 use compare::damage::{a_few, damaged, Bounds};
 use compare::examples::examples;
 use compare::noise::noise;
@@ -15,7 +15,7 @@ use std::path::{Path, PathBuf};
 use std::process::Command;
 
 /// Random folders, each with its own seed.
-const FOLDERS: u64 = 400;
+const FOLDERS: u64 = 800;
 
 /// More bytes than the desk program reads of a paper.
 const LONG: usize = 70_000;
@@ -91,7 +91,8 @@ fn random_folders_print_what_the_separate_finder_renders() {
         let mut random = Random::new(seed);
         let abducibles = random.between(0, 7);
         let others = random.between(1, 9);
-        let program = causes(&mut random, abducibles, others);
+        let make = random.pick::<Causes>(&[causes, consistent_causes]);
+        let program = make(&mut random, abducibles, others);
         let query = query_of_heads(&mut random, &program);
         let bounds = Bounds::of(&program);
         let file = found(&mut random, encode_file(&program), &bounds);

@@ -4,17 +4,21 @@
 
 use assemble::parse;
 use compare::examples::{examples, Example};
+use compare::judged::is_contradicted;
 use finder::{continue_search, fresh, judge, State};
 use plain::desk::LIST_LENGTH;
 use plain::dual::LONGEST_DUAL;
 use plain::model::LONGEST_MODEL;
-use plain::{minimal_explanations, minimal_of, read_papers, scenario_count, Held, Program, Search};
+use plain::{
+    minimal_explanations, minimal_of, model, read_papers, scenario_count, Held, Literal, Program,
+    Query, Search,
+};
 
 const ALLOWANCES: [u32; 8] = [1, 2, 3, 7, 63, 64, 65, u32::MAX];
 
 fn each(check: impl Fn(&Example)) {
     let examples = examples();
-    assert!(examples.len() >= 3, "{} examples", examples.len());
+    assert!(examples.len() >= 4, "{} examples", examples.len());
     for example in &examples {
         println!("{}", example.folder.display());
         check(example);
@@ -148,17 +152,47 @@ fn each_readme_has_the_numbers_of_the_atoms_and_the_output() {
     });
 }
 
-#[test]
-fn without_its_integrity_rule_both_of_two_sensors_are_right() {
+fn program_of(name: &str) -> (Program, Query) {
     let examples = examples();
     let mut of_name = examples
         .iter()
-        .filter(|example| example.folder.ends_with("two-sensors"));
+        .filter(|example| example.folder.ends_with(name));
     let example = of_name.next().expect("an example of that name");
-    let papers = read_papers(&example.causes, &example.sheet);
-    let (mut program, query) = papers.expect("accepted papers");
+    read_papers(&example.causes, &example.sheet).expect("accepted papers")
+}
+
+/// The minimal of those that were explanations before Card 3.
+fn told_before(program: &Program, query: &Query) -> Vec<u32> {
+    let mut told: Vec<u32> = (0..scenario_count(program)).collect();
+    told.retain(|&scenario| {
+        let model = model(program, scenario);
+        model.explains(query) || is_contradicted(query, &model.bytes())
+    });
+    minimal_of(&told)
+}
+
+#[test]
+fn without_its_integrity_rule_two_sensors_are_not_both_right_either() {
+    let (mut program, query) = program_of("two-sensors");
     let minimal = |program: &Program| minimal_explanations(program, &query, Held::NONE);
     assert_eq!(minimal(&program), [15, 29, 37, 39]);
+    assert_eq!(told_before(&program, &query), [15, 29, 37, 39]);
     program.integrity_bodies.clear();
-    assert_eq!(minimal(&program), [8, 15, 29, 36]);
+    assert_eq!(minimal(&program), [15, 29, 36]);
+    assert_eq!(told_before(&program, &query), [8, 15, 29, 36]);
+}
+
+#[test]
+fn a_sealed_meter_that_is_faulty_and_not_is_not_told() {
+    let (mut program, query) = program_of("sealed-meter");
+    let minimal = |program: &Program| minimal_explanations(program, &query, Held::NONE);
+    assert_eq!(minimal(&program), [10, 33, 36]);
+    assert_eq!(told_before(&program, &query), [7, 10, 33, 36]);
+    // a, -a for each atom; falsum.
+    let bytes = [1, 2, 2, 1, 0, 0, 0, 0, 1, 2, 3, 3, 1, 2, 1, 2, 2];
+    assert_eq!(model(&program, 7).bytes(), bytes);
+
+    let (faulty, not_faulty) = (Literal(4 * 5), Literal(4 * 5 + 2));
+    program.integrity_bodies.push(vec![faulty, not_faulty]);
+    assert_eq!(minimal(&program), [10, 33, 38, 39]);
 }

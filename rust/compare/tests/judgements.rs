@@ -1,6 +1,6 @@
 //! Compares the two finders in judging scenarios of random files.
 
-use compare::causes::{causes, query_of_heads};
+use compare::causes::{causes, consistent_causes, query_of_heads, Causes};
 use compare::comparison::{Comparison, Told};
 use compare::judge_coverage::{JudgeCoverage, Lending};
 use compare::judged::Judged;
@@ -15,7 +15,8 @@ use random::Random;
 /// Scenarios of random files, one of each or a few.
 const LEAST_JUDGED: u64 = 100_000;
 
-/// Small files, each with all its scenarios.
+/// Small files, each with all its scenarios, and as many that do not contradict
+/// themselves.
 const WHOLE_FILES: u64 = 2_500;
 
 fn main() {
@@ -38,8 +39,13 @@ fn main() {
         }
     }
     let of_random_files = judgements.coverage.judged();
-    for _ in 0..WHOLE_FILES {
-        whole_file(&mut random, &mut judgements);
+    for file in 0..2 * WHOLE_FILES {
+        let make = if file < WHOLE_FILES {
+            causes
+        } else {
+            consistent_causes
+        };
+        whole_file(&mut random, &mut judgements, make);
     }
 
     let Judgements {
@@ -48,7 +54,7 @@ fn main() {
     } = judgements;
     let compared = format!(
         "{} calls compared, {of_random_files} judgements of random files and \
-         {} of {WHOLE_FILES} whole files",
+         {} of 2 x {WHOLE_FILES} whole files",
         comparison.calls,
         coverage.judged() - of_random_files
     );
@@ -56,9 +62,9 @@ fn main() {
 }
 
 /// Judges every scenario of a small file, and the first that is none.
-fn whole_file(random: &mut Random, judgements: &mut Judgements) {
+fn whole_file(random: &mut Random, judgements: &mut Judgements, make: Causes) {
     let (abducibles, others) = (random.below(5), random.between(1, 4));
-    let program = causes(random, abducibles, others);
+    let program = make(random, abducibles, others);
     let query = query_of_heads(random, &program);
     let papers = Papers::new(&encode_file(&program), &encode_sheet(&query));
     let Accepted {

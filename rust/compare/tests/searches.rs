@@ -5,6 +5,7 @@
 mod beginning;
 mod crossing;
 
+use compare::causes::{causes, consistent_causes};
 use compare::comparison::{Comparison, Told};
 use compare::definition::{Definition, Sums};
 use compare::held_coverage::HeldSearch;
@@ -24,7 +25,8 @@ use random::Random;
 use beginning::begin;
 use crossing::crossing;
 
-/// Files with a fresh search in many calls.
+/// Files with a fresh search in many calls, and as many that do not contradict
+/// themselves.
 const FILES: u64 = 20_000;
 
 /// Files with more scenarios than can be gone through.
@@ -44,8 +46,13 @@ fn main() {
         comparison,
         coverage: SearchCoverage::default(),
     };
-    for _ in 0..FILES {
-        let mut papers = Papers::searchable(&mut random);
+    for file in 0..2 * FILES {
+        let make = if file < FILES {
+            causes
+        } else {
+            consistent_causes
+        };
+        let mut papers = Papers::searchable(&mut random, make);
         for held in [Held::NONE, masks::sound(&mut random, papers.abducibles)] {
             fresh_search(&mut random, &mut papers, &mut searches, held);
         }
@@ -72,7 +79,7 @@ fn main() {
         coverage,
     } = searches;
     let calls = comparison.calls;
-    let compared = format!("{calls} calls compared over {FILES} files and others");
+    let compared = format!("{calls} calls compared over 2 x {FILES} files and others");
     comparison.end(&compared, &coverage.parts());
 }
 
