@@ -44,9 +44,13 @@ pub fn search(program: &plain::Program, query: &Query) -> Found {
     found
 }
 
-/// The lanes in which falsum is false and not true, and the query holds.
+/// The lanes in which falsum is false and not true, the query holds, and no
+/// literal is both.
 fn explained(program: &Program, query: &Body, settling: &Settling) -> u64 {
     let falsum = program.falsum();
     let lanes = settling.f[falsum] & !settling.t[falsum];
-    query.lanes(lanes, &settling.t, &settling.f)
+    let holding = query.lanes(lanes, &settling.t, &settling.f);
+    let literals = settling.t.iter().zip(&settling.f);
+    let both = literals.fold(0, |both, (t, f)| both | t & f);
+    holding & !both
 }
