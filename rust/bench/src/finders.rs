@@ -46,6 +46,12 @@ pub trait Finder: Sync {
         true
     }
 
+    /// Whether it tells scenarios with a byte 3 as explanations, as builds from
+    /// before Card 3 do: its verdicts and finds are not those of the others.
+    fn tells_contradictions(&self) -> bool {
+        false
+    }
+
     fn fresh(&self, papers: &Papers, held: Held) -> Words;
 
     fn continue_search(

@@ -3,7 +3,9 @@
 use std::cell::OnceCell;
 use std::fmt::Debug;
 
-use crate::finders::Finder;
+use compare::words::Words;
+
+use crate::finders::{Buffers, Finder};
 use crate::timing::{in_turn, Care, Times, Work};
 
 /// The times of the finders at the work that each is given, in turn.
@@ -35,13 +37,34 @@ impl<T: Clone + Debug + PartialEq> Agreed<T> {
 
     /// Takes what a finder gives, which must be what came first.
     pub fn expect(&self, given: &T, by: &dyn Finder) {
+        self.expect_same(given, by, T::eq);
+    }
+
+    /// The same of what depends on what an explanation is: a finder that tells
+    /// contradictions must give the same beside it.
+    pub fn expect_told(&self, given: &T, by: &dyn Finder, beside: impl Fn(&T, &T) -> bool) {
+        if by.tells_contradictions() {
+            self.expect_same(given, by, beside);
+        } else {
+            self.expect(given, by);
+        }
+    }
+
+    fn expect_same(&self, given: &T, by: &dyn Finder, is_same: impl Fn(&T, &T) -> bool) {
         let agreed = self.0.get_or_init(|| given.clone());
-        assert!(agreed == given, "{} differs: {given:?}", by.name());
+        assert!(is_same(agreed, given), "{} differs: {given:?}", by.name());
     }
 
     pub fn answer(&self) -> &T {
         self.0.get().expect("something came")
     }
+}
+
+/// Whether judging gave the same beside the verdict.
+pub fn is_judged_alike(one: &(Words, Buffers), other: &(Words, Buffers)) -> bool {
+    const VERDICT: usize = 3;
+    let is_alike = |slot| slot == VERDICT || one.0[slot] == other.0[slot];
+    (0..one.0.len()).all(is_alike) && one.1 == other.1
 }
 
 #[cfg(test)]

@@ -7,7 +7,7 @@ use compare::words::Words;
 use crate::columns::{cells, heads};
 use crate::files::{layered, there_and_back, Papers};
 use crate::finders::{Buffers, Finder, Finders};
-use crate::measuring::{times, work, Agreed};
+use crate::measuring::{is_judged_alike, times, work, Agreed};
 use crate::timing::{grouped, microseconds, Times};
 
 /// From those that are soon settled to the one that takes the longest.
@@ -57,7 +57,7 @@ fn judging(finders: &[&dyn Finder], papers: &Papers) -> (u64, Times) {
         let mut given = (Words::default(), Buffers::new());
         Some(work(finder, move || {
             given.0 = finder.judge(papers, 0, &mut given.1);
-            agreed.expect(&given, finder);
+            agreed.expect_told(&given, finder, is_judged_alike);
             1
         }))
     });

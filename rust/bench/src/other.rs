@@ -3,7 +3,8 @@
 //!
 //! It is opened by its path, as its functions have the names of those that are
 //! linked. One from before there was finder_fresh is known by lacking it: its
-//! finder_continue takes no masks.
+//! finder_continue takes no masks. One that tells contradictions is known by its
+//! verdict on one.
 
 use std::ffi::{c_char, c_int, c_void, CStr, CString};
 use std::fs::canonicalize;
@@ -13,7 +14,7 @@ use std::path::Path;
 
 use compare::words::Words;
 use finder::Record;
-use plain::Held;
+use plain::{Held, ObjectiveLiteral, Program, Rule};
 
 use crate::files::Papers;
 use crate::finders::{Buffers, Finder};
@@ -80,6 +81,7 @@ pub struct Other {
     write_dual: WriteDual,
     judge: Judge,
     searching: Searching,
+    tells_contradictions: bool,
 }
 
 /// How it searches.
@@ -101,18 +103,39 @@ impl Other {
         let bytes = CString::new(whole.as_os_str().as_bytes()).expect("a path has no 0");
         // SAFETY: the path ends with 0; opening a build of the library runs
         // nothing of it; each function has the type that goes with its name.
-        unsafe {
+        let mut other = unsafe {
             let object = dlopen(bytes.as_ptr(), NOW_AND_LOCAL);
             if object.is_null() {
                 return Err(told("not a shared object".to_string()));
             }
-            Ok(Other {
+            Other {
                 rest: function(object, c"finder_rest").map_err(told)?,
                 write_dual: function(object, c"finder_write_dual").map_err(told)?,
                 judge: function(object, c"finder_judge").map_err(told)?,
                 searching: Searching::of(object).map_err(told)?,
-            })
-        }
+                tells_contradictions: false,
+            }
+        };
+        other.tells_contradictions = other.explains_a_contradiction();
+        Ok(other)
+    }
+
+    /// Whether it tells an atom that is a fact as its negation is, with nothing
+    /// asked for, as an explanation.
+    fn explains_a_contradiction(&self) -> bool {
+        let fact = |head| Rule {
+            head: ObjectiveLiteral(head),
+            body: vec![],
+        };
+        let program = Program {
+            atoms: 1,
+            abducibles: vec![],
+            rules: vec![fact(0), fact(1)],
+            integrity_bodies: vec![],
+        };
+        let papers = Papers::without_query("a contradiction", program);
+        let [number, _, _, verdict, ..] = self.judge(&papers, 0, &mut Buffers::new());
+        number == 0 && verdict == 1
     }
 }
 
@@ -217,6 +240,10 @@ impl Finder for Other {
         matches!(self.searching, Searching::Holding { .. })
     }
 
+    fn tells_contradictions(&self) -> bool {
+        self.tells_contradictions
+    }
+
     fn fresh(&self, papers: &Papers, held: Held) -> Words {
         let file = &papers.file;
         let mut out = Words::default();
@@ -294,8 +321,8 @@ impl Finder for Other {
 mod tests {
     use super::*;
     use crate::files::seeded::SMALL;
-    use crate::finders::Finders;
-    use crate::measuring::Agreed;
+    use crate::finders::{Finders, Linked};
+    use crate::measuring::{is_judged_alike, Agreed};
     use crate::searching::{fresh, whole_holding};
     use std::process::{id, Command};
     use std::{env, fs};
@@ -345,7 +372,7 @@ mod tests {
     #[test]
     fn another_build_of_the_library_answers() {
         let other = opened("whole", &whole(ARCHIVE)).expect("a library");
-        assert!(other.holds_faults());
+        assert!(other.holds_faults() && !other.tells_contradictions());
         let finders = Finders { other: Some(other) };
         expect_same(&finders);
         let papers = SMALL.papers();
@@ -372,27 +399,71 @@ void finder_continue(const uint8_t *file, size_t file_len, const uint8_t *sheet,
 }
 ";
 
-    #[test]
-    fn a_build_from_before_there_was_finder_fresh_answers() {
-        let own = |name| env::temp_dir().join(format!("bench-{}-{name}", id()));
-        let (archive, source) = (own("without.a"), own("without.c"));
+    /// The library with its symbols changed by these arguments of objcopy, and
+    /// with this C beside it.
+    fn over_the_library(name: &str, changing: &[&str], c: &str) -> Other {
+        let own = |kind| env::temp_dir().join(format!("bench-{}-{name}.{kind}", id()));
+        let (archive, source) = (own("a"), own("c"));
         let [archive_text, source_text] =
             [&archive, &source].map(|it| it.to_str().expect("a text"));
-        fs::write(&source, WITHOUT_MASKS).expect("a file of its own");
+        fs::write(&source, c).expect("a file of its own");
         let renaming = Command::new("objcopy")
-            .args(["--redefine-sym", "finder_continue=with_masks"])
-            .args(["--localize-symbol", "finder_fresh", ARCHIVE, archive_text])
+            .args(changing)
+            .args([ARCHIVE, archive_text])
             .status();
         assert!(renaming
             .expect("objcopy, which comes with the linker")
             .success());
         let arguments = [&whole(archive_text)[..], &["-x", "c", source_text]].concat();
-        let other = opened("without", &arguments).expect("a library");
+        let other = opened(name, &arguments).expect("a library");
         for path in [&archive, &source] {
             fs::remove_file(path).expect("what was written");
         }
+        other
+    }
+
+    #[test]
+    fn a_build_from_before_there_was_finder_fresh_answers() {
+        let redefined = ["--redefine-sym", "finder_continue=with_masks"];
+        let hidden = ["--localize-symbol", "finder_fresh"];
+        let other = over_the_library("without", &[redefined, hidden].concat(), WITHOUT_MASKS);
         assert!(!other.holds_faults());
         expect_same(&Finders { other: Some(other) });
+    }
+
+    /// A verdict that is always 1.
+    const TELLING: &str = "
+#include <stddef.h>
+#include <stdint.h>
+void judge(const uint8_t *, size_t, const uint8_t *, size_t, uint32_t, uint8_t *, size_t, uint8_t *, size_t, uint64_t *);
+void finder_judge(const uint8_t *file, size_t file_len, const uint8_t *sheet, size_t sheet_len, uint32_t scenario, uint8_t *dual, size_t dual_len,
+                  uint8_t *model, size_t model_len, uint64_t *out)
+{
+    judge(file, file_len, sheet, sheet_len, scenario, dual, dual_len, model, model_len, out);
+    out[3] = 1;
+}
+";
+
+    #[test]
+    fn verdicts_of_a_build_that_tells_contradictions_may_differ() {
+        let redefined = ["--redefine-sym", "finder_judge=judge"];
+        let other = over_the_library("telling", &redefined, TELLING);
+        assert!(other.tells_contradictions());
+        let papers = SMALL.papers();
+        let judged = |finder: &dyn Finder| {
+            let mut buffers = Buffers::new();
+            (finder.judge(&papers, 0, &mut buffers), buffers)
+        };
+        let agreed = Agreed::new();
+        agreed.expect(&judged(&Linked), &Linked);
+        agreed.expect_told(&judged(&other), &other, is_judged_alike);
+        assert_ne!(*agreed.answer(), judged(&other), "the verdict is another");
+        let mut spoilt = judged(&other);
+        spoilt.1.model[0] ^= 1;
+        assert!(!is_judged_alike(agreed.answer(), &spoilt));
+        spoilt = judged(&other);
+        spoilt.0[4] += 1;
+        assert!(!is_judged_alike(agreed.answer(), &spoilt));
     }
 
     #[test]

@@ -19,6 +19,14 @@ pub struct Outcome {
     pub has_ended: bool,
 }
 
+impl Outcome {
+    /// Whether it is the same beside what was found.
+    pub fn is_like(&self, other: &Outcome) -> bool {
+        let beside = |it: &Outcome| (it.tried, it.rounds, it.has_ended);
+        beside(self) == beside(other)
+    }
+}
+
 /// The state of a search that was continued, as a word.
 const GOING: u64 = 0;
 const ENDED: u64 = 2;
@@ -95,7 +103,8 @@ pub fn whole_times(finders: &[&dyn Finder], papers: &Papers, held: Held) -> (Out
     let times = times(finders, |finder| {
         let agreed = &agreed;
         let run = move || {
-            agreed.expect(&whole_holding(finder, papers, held), finder);
+            let given = whole_holding(finder, papers, held);
+            agreed.expect_told(&given, finder, Outcome::is_like);
             1
         };
         let can_hold = held == Held::NONE || finder.holds_faults();

@@ -1,11 +1,9 @@
 //! Scenarios settled a second.
 
-use compare::words::Words;
-
 use crate::columns::{cells, heads, named_heads};
 use crate::files::Papers;
 use crate::finders::{Buffers, Finder, Finders, Linked};
-use crate::measuring::{times, work, Agreed};
+use crate::measuring::{is_judged_alike, times, work, Agreed};
 use crate::searching::{whole, whole_by_native, Outcome};
 use crate::timing::{a_second, grouped, in_turn, Care, Times, Work};
 
@@ -86,16 +84,13 @@ fn judging(finders: &[&dyn Finder], papers: &Papers) -> Times {
 
 /// All must give the same, and leave the same in the buffers.
 fn check_judging(finders: &[&dyn Finder], papers: &Papers) {
-    let agreed = Agreed::new();
-    for &finder in finders {
-        let mut buffers = Buffers::new();
-        let answers: Vec<(Words, Buffers)> = some_scenarios(papers, 0)
-            .map(|scenario| {
-                let words = finder.judge(papers, scenario, &mut buffers);
-                (words, buffers.clone())
-            })
-            .collect();
-        agreed.expect(&answers, finder);
+    for scenario in some_scenarios(papers, 0) {
+        let agreed = Agreed::new();
+        for &finder in finders {
+            let mut buffers = Buffers::new();
+            let words = finder.judge(papers, scenario, &mut buffers);
+            agreed.expect_told(&(words, buffers), finder, is_judged_alike);
+        }
     }
 }
 
@@ -108,16 +103,22 @@ fn some_scenarios(papers: &Papers, last: u32) -> impl Iterator<Item = u32> {
 /// The seconds for a scenario in whole searches, of which this comes, by each
 /// finder and by the native one.
 fn searching(finders: &[&dyn Finder], papers: &Papers, outcome: &Outcome) -> Times {
-    let tried = |given: Outcome, name: &str| {
-        assert_eq!(given, *outcome, "{name} differs");
-        given.tried
-    };
+    let agreed = &Agreed::new();
+    agreed.expect(outcome, &Linked);
     let works = finders.iter().map(|&finder| {
         let takes_too_long = finder.is_slow() && is_long(papers);
-        let run = move || tried(whole(finder, papers), finder.name());
+        let run = move || {
+            let given = whole(finder, papers);
+            agreed.expect_told(&given, finder, Outcome::is_like);
+            given.tried
+        };
         (!takes_too_long).then_some(work(finder, run))
     });
-    let by_native = Work::new(Care::Much, || tried(whole_by_native(papers), NATIVE));
+    let by_native = Work::new(Care::Much, || {
+        let given = whole_by_native(papers);
+        assert_eq!(given, *outcome, "{NATIVE} differs");
+        given.tried
+    });
     in_turn(works.chain([Some(by_native)]).collect())
 }
 

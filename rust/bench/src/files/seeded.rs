@@ -233,6 +233,6 @@ mod tests {
         let (program, query) = read_papers(&papers.file, &papers.sheet).expect("accepted");
         let all = explanations(&program, &query, Held::NONE);
         let minimal = minimal_explanations(&program, &query, Held::NONE);
-        assert_eq!((all.len(), minimal.len()), (66, 8));
+        assert_eq!((all.len(), minimal.len()), (40, 6));
     }
 }
