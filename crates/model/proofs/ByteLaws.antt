@@ -13,7 +13,7 @@ use Rattle.literals.specs.Numbering.{objectiveNumber, defaultNegated, judged, f
 use Rattle.papers.specs.Program.{Program, Query}
 use Rattle.papers.specs.Valid.{All, All.none as nothing, All.each as each}
 use Rattle.papers.specs.Tests.{_and_, _or_}
-use Rattle.papers.proofs.TestLaws.{right, either-left, either-right, passes, is-false, or-false, false-or, and-assoc, or-assoc}
+use Rattle.papers.proofs.TestLaws.{right, either-left, either-right, passes, is-false, or-false, false-or, or-assoc}
 use Rattle.model.specs.Sets.{Set, has, flagsFrom, setOf}
 use Rattle.model.specs.LeastSet.{literalHolds, bodyHolds}
 use Rattle.model.specs.Model.{model, valueByte, valueBytes, modelBytes, queryLiteralHolds, queryHolds, contradictory, explainsBy, explains}
@@ -103,6 +103,8 @@ module _ (a b : ℕ → Bool) where
       ≡ (contradictory (valueBytes (setOf n a) (setOf n b)) or (a n and b n))
   contradictory-grown n = rw add-one (grown-from n 0 ∙ rw zero-add)
 
+-- ---- a query
+
 module _ (n : ℕ) (trues falses : Set) (ht : length trues ≡ n) (hf : length falses ≡ n) where
   query-literal : (l : ℕ) → objectiveNumber l < n → queryLiteralHolds (valueBytes trues falses) l ≡ literalHolds trues falses l
   unfolding queryLiteralHolds literalHolds
@@ -137,16 +139,13 @@ module _ (p : Program) (s : ℕ) where
   -- An explanation, by the sets: falsum false and not true, each literal of the query holding as a body's does, and no literal both.
   pub explains-is : {q : Query} → All (λ l. objectiveNumber l < judged (p .atoms)) q
       → explains p q s
-      ≡ (((not (has (model p s .trues) (falsum (p .atoms))) and has (model p s .falses) (falsum (p .atoms)))
-      and bodyHolds (model p s .trues) (model p s .falses) q)
+      ≡ ((not (has (model p s .trues) (falsum (p .atoms))) and has (model p s .falses) (falsum (p .atoms)))
+      and bodyHolds (model p s .trues) (model p s .falses) q
       and not (contradictory (valueBytes (model p s .trues) (model p s .falses))))
-  unfolding explains explainsBy modelBytes
-  explains-is {q} h =
+  unfolding explains explainsBy
+  explains-is h =
       let z = model-sized p s in
-      let t = model p s .trues in
-      let f = model p s .falses in
-      let bottom = falsum (p .atoms) in
       ap₂ _and_
-      (rw (bytes-at t f bottom (omega arith) (omega arith)) (byte-false _ _))
-      (ap (λ (x : Bool). x and not (contradictory (valueBytes t f))) (query-body (judged (p .atoms)) t f (z .trues) (z .falses) h))
-      ∙ sym (and-assoc (not (has t bottom) and has f bottom) (bodyHolds t f q) (not (contradictory (valueBytes t f))))
+      (rw (model-byte (falsum (p .atoms)) (omega arith)) (byte-false _ _))
+      (unfold modelBytes in ap (λ (x : Bool). x and not (contradictory (valueBytes (model p s .trues) (model p s .falses))))
+      (query-body (judged (p .atoms)) (model p s .trues) (model p s .falses) (z .trues) (z .falses) h))

@@ -11,6 +11,7 @@ use Rattle.literals.specs.Numbering.{judged, falsum}
 use Rattle.papers.specs.Program.{Program, Query}
 use Rattle.papers.specs.Valid.{ValidBody}
 use Rattle.papers.proofs.Lists.{all-each}
+use Rattle.papers.proofs.TestLaws.{and-assoc}
 use Rattle.papers.specs.Tests.{_and_, _or_}
 use Rattle.model.specs.Sets.{has, flagsFrom}
 use Rattle.model.specs.LeastSet.{bodyHolds}
@@ -47,7 +48,8 @@ explained-word n o query trues falses other holding both consistent e q k b m c 
       (b .in-lane (judged n) q l
       ∙ ap (λ (x : Bool). x and bodyHolds (lane (judged n) l trues) (lane (judged n) l falses) query)
       (lane-and l other (getD falses o 0) ∙ ap₂ _and_ (k .at l h ∙ ap not (there l trues)) (there l falses)))
-      (c .at l h ∙ ap not (m .at l));
+      (c .at l h ∙ ap not (m .at l))
+      ∙ and-assoc _ (bodyHolds (lane (judged n) l trues) (lane (judged n) l falses) query) _;
 }
   where
     there : (l : ℕ) (words : List ℕ) → inLane l (getD words o 0) ≡ has (lane (judged n) l words) (falsum n)

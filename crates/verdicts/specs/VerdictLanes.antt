@@ -32,8 +32,8 @@ pub record BothLanes (n : ℕ) (trues falses : List ℕ) (word : ℕ) : Type 0 w
 pub record ExplainedWord (n : ℕ) (query trues falses : List ℕ) (word : ℕ) : Type 0 where
   pub at : (l : ℕ) → l < 64
       → inLane l word
-      ≡ (((not (has (lane (judged n) l trues) (falsum n)) and has (lane (judged n) l falses) (falsum n))
-      and bodyHolds (lane (judged n) l trues) (lane (judged n) l falses) query)
+      ≡ ((not (has (lane (judged n) l trues) (falsum n)) and has (lane (judged n) l falses) (falsum n))
+      and bodyHolds (lane (judged n) l trues) (lane (judged n) l falses) query
       and not (contradictory (valueBytes (lane (judged n) l trues) (lane (judged n) l falses))))
 
 -- Which of the scenarios base + l are explanations, and their round counts.
