@@ -133,7 +133,7 @@ module _ (p : Program) (s : ℕ) where
   unfolding explains explainsBy
   explained-consistent q e o both =
       let bytes = modelBytes p s in
-      let h = right (eqb (getD bytes (falsum (p .atoms)) 0) 2) _ (passes _ e) in
+      let h = right _ (queryHolds bytes q and not (contradictory bytes)) (passes (explains p q s) e) in
       T-not (contradictory bytes) (right (queryHolds bytes q) _ h) (contradictory-at bytes o both)
 
   -- An explanation, by the sets: falsum false and not true, each literal of the query holding as a body's does, and no literal both.
