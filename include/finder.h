@@ -2,15 +2,17 @@
  * The fault finder's C boundary.
  *
  * Document 01 says what a file, a sheet, a dual, a refusal and its place, a
- * scenario, a model, a record and a list are, and Card 1 of document 02 what
- * held faults are. This header says only how they cross the boundary.
+ * scenario, a model, a record and a list are; of document 02, Card 1 says what
+ * held faults are and Card 4 what a text is. This header says only how they
+ * cross the boundary.
  *
  * Common to all functions:
  *
  * - A paper is lent as a pointer to its first byte and its length in bytes.
  *   The bytes must be readable for that length and are not written. The
  *   pointer must not be null, even where the length is 0. The length must not
- *   be above PTRDIFF_MAX.
+ *   be above PTRDIFF_MAX. Where a refused paper is told by its number, 0 is the
+ *   file, 1 the sheet and 2 the text.
  * - A buffer is lent as a pointer to its first byte and its length in bytes,
  *   with the same bounds on both. The bytes must be readable and writable for
  *   that length and overlap no paper and no other buffer. A call that is
@@ -171,6 +173,29 @@ void finder_continue(const uint8_t *file, size_t file_len,
                      uint16_t assumed, uint16_t ruled,
                      uint32_t allowance,
                      uint64_t out[8]);
+
+/*
+ * Reads the text, rules typed as Card 4 has it, and writes the file that they
+ * make to the start of the file buffer.
+ *
+ *   slot  text refused           file buffer short   file written
+ *   0     the refusal number,    11                  0
+ *         17, 18, 3, 8 or 9
+ *   1     2, the text            0                   0
+ *   2     the place in the text  0                   0
+ *   3     0                      0                   the length of the file
+ *   4-7   0                      0                   0
+ *
+ * The tests come in this order: over the whole text 17 and 18, the earlier
+ * place first; then what a reader of the file would refuse, in the order of its
+ * fields (3 for the abducibles; 9, 3 and 8 for each rule; 9 and 3 for each
+ * integrity rule), at the first token of the line; then 11. So where slot 0 is
+ * 0, the first slot 3 bytes of the file buffer are the file, of edition 1, and
+ * those beyond are as they were. No file is longer than 46,895 bytes.
+ */
+void finder_import(const uint8_t *text, size_t text_len,
+                   uint8_t *file, size_t file_len,
+                   uint64_t out[8]);
 
 #ifdef __cplusplus
 }

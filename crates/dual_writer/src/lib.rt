@@ -12,10 +12,10 @@ ghost use Rattle.dual_writer.specs.WrittenDual.{writtenTold, dualTold, d
 use chains::fold_chains;
 use entries::dual_length;
 use entries::write_entries;
+use field_writer::write_end;
 use papers::Contents;
 use papers::FileRead;
 use papers::Refusal;
-use writing::write_end;
 
 // What writing answers: the dual's length, or document 01's refusal 11, or one of the file's.
 pub enum DualWritten {

@@ -1,8 +1,8 @@
 // One field of the dual, written into the part of the buffer that it is lent.
 ghost use mathlib.Core.Path.{_≡_};
-ghost use mathlib.Core.List.{[], _∷_, map};
-ghost use Prim.Native.Nat.{_+_, _*_, _/_, _%_, _<_, _≤_};
-ghost use lib.ListN.{length, set};
+ghost use mathlib.Core.List.{_∷_, map};
+ghost use Prim.Native.Nat.{_+_, _*_, _<_, _≤_};
+ghost use lib.ListN.{length};
 ghost use Rattle.literals.specs.Numbering.{defaultConjugate};
 ghost use Rattle.papers.specs.Field.{numbers};
 ghost use Rattle.papers.specs.Encoding.{encodeNumbers, encodeField};
@@ -10,29 +10,12 @@ ghost use Rattle.dual.specs.Bytes.{filled};
 ghost use Rattle.dual_writer.specs.Chains.{Chain, foldsAt};
 use crate::chains::next_fold;
 use conjugates::LiteralOf;
+use field_writer::put_heading;
+use field_writer::put_number;
 use literals::Fold;
 use literals::Literal;
 use literals::Objective;
 use numbered::literal_at;
-
-// A two-byte number at a place, high byte first.
-fn put_number(buffer: &mut [u8], at: usize, value: usize)
-    requires { ⌜ (at + 1 < length (now buffer)) × (value < 65536) ⌝ }
-    ensures { λ _. ⌜ now (buffer .exit) ≡ set (set (now (buffer .entry)) at (value / 256)) (at + 1) (value % 256) ⌝ }
-{
-    buffer[at] = (value / 256) as u8;
-    buffer[at + 1] = (value % 256) as u8;
-}
-
-// A field's tag, its length and its first number.
-fn put_heading(buffer: &mut [u8], tag: u8, size: usize, number: usize)
-    requires { ⌜ (4 < length (now buffer)) × ((size < 65536) × (number < 65536)) ⌝ }
-    ensures { λ _. ⌜ now (buffer .exit) ≡ filled (tag ∷ size / 256 ∷ size % 256 ∷ number / 256 ∷ number % 256 ∷ []) (now (buffer .entry)) ⌝ }
-{
-    buffer[0] = tag;
-    put_number(buffer, 1, size);
-    put_number(buffer, 3, number);
-}
 
 // The default conjugate of a literal that was read: two bytes, so it is one of 16,384 atoms, whatever the file's count.
 fn conjugate_of(l: Literal) -> Literal
@@ -109,14 +92,4 @@ pub(crate) fn write_literal(
         fold = next_fold(next, fold);
     }
     at
-}
-
-// 7F.
-pub(crate) fn write_end(buffer: &mut [u8])
-    requires { ⌜ 2 < length (now buffer) ⌝ }
-    ensures { λ _. ⌜ now (buffer .exit) ≡ filled (encodeField 0x7F []) (now (buffer .entry)) ⌝ }
-{
-    buffer[0] = 0x7F;
-    buffer[1] = 0;
-    buffer[2] = 0;
 }

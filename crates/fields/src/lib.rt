@@ -45,7 +45,7 @@ fn most_numbers(tag: u8) -> usize
     16
 }
 
-fn length_allowed(tag: u8, len: usize) -> bool
+pub fn length_allowed(tag: u8, len: usize) -> bool
     ensures { λ r. ⌜ r ≡ lengthAllowed tag len ⌝ }
 {
     if tag == 0x01 {

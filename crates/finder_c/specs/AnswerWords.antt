@@ -1,4 +1,4 @@
--- The eight words of an answer: 0 the refusal number (0: accepted), 1 the paper (0 file, 1 sheet), 2 the place, the others by the
+-- The eight words of an answer: 0 the refusal number (0: accepted), 1 the paper (0 file, 1 sheet, 2 text), 2 the place, the others by the
 -- call. A word that has no meaning in an answer is 0.
 use mathlib.Core.Path.{_≡_}
 use mathlib.Core.Bool.{Bool, true, false}
@@ -11,6 +11,8 @@ use Rattle.papers.specs.Outcome.{Outcome}
 use Rattle.papers.specs.Reading.{Papers, readPapers}
 use Rattle.papers.specs.Answers.{restOf}
 use Rattle.papers.specs.Told.{Told, tells, refusedBy, refusedAt, readTold, papersOf}
+use Rattle.importing.specs.Imports as import
+use Rattle.importing.specs.Imports.{ImportTold}
 use Rattle.judging.specs.Judging.{Verdict, judgeTold, dualJudged, modelJudged}
 use Rattle.search.specs.Searching.{continueTold, dualContinued, listContinued}
 use Rattle.held.specs.declared.SearchRecord.{SearchRecord}
@@ -21,6 +23,10 @@ use Rattle.steps.specs.declared.State.the-variants.{Going, Full, Ended}
 abbrev pub paperNumber : Paper → ℕ
 paperNumber File = 0
 paperNumber Sheet = 1
+
+-- "The paper named in 1 to 10, 17 and 18 is the text."
+abbrev pub textNumber : ℕ
+textNumber = 2
 
 -- ---- words 0 to 2, and the five that follow
 
@@ -53,6 +59,16 @@ restWords rest = words (λ values. two 0 0) (two (length rest) 0)
 -- Writing the dual: word 3 is its length.
 abbrev pub dualWords : Told ℕ → List ℕ
 dualWords = words (λ n. two n 0) (two 0 0)
+
+-- A refusal of a text.
+abbrev pub textWords : ℕ → ℕ → List ℕ
+textWords number place = number ∷ textNumber ∷ place ∷ two 0 0
+
+-- Importing a text: word 3 is the file's length.
+abbrev pub importWords : ImportTold → List ℕ
+importWords (import.tells n) = acceptedWords (two n 0)
+importWords (import.refusedBy number) = bareWords number (two 0 0)
+importWords (import.refusedInText number place) = textWords number place
 
 abbrev pub flagNumber : Bool → ℕ
 flagNumber true = 1

@@ -5,16 +5,30 @@ ghost use lib.ListN.{length};
 ghost use Rattle.papers.specs.Reading.{readFile, readPapers};
 ghost use Rattle.papers.specs.Told.{tells, bareNumber};
 ghost use Rattle.dual_writer.specs.WrittenDual.{writtenTold, dualTold, dualAfter};
+ghost use Rattle.text.specs.Importing.{importText};
+ghost use Rattle.importing.specs.Imports.{importedTold, importTold, importAfter};
 ghost use Rattle.judging.specs.Judging.{judgedTold};
 ghost use Rattle.held.specs.Masks.{masks};
 ghost use Rattle.fresh.specs.Beginning.{begunTold, freshTold};
 ghost use Rattle.search.specs.Searching.{continuedTold};
 ghost use Rattle.finder_c.specs.AnswerWords.{flagNumber, paperNumber, stateNumber, recordOf, two, acceptedWords, bareWords, refusalWords};
-ghost use Rattle.finder_c.specs.AnswerWords.{dualWords, judgedWords, freshWords, reportWords, continuedWords, restLeft, JudgeLeaves, ContinueLeaves};
+ghost use Rattle.finder_c.specs.AnswerWords.{
+  dualWords,
+  textWords,
+  importWords,
+  judgedWords,
+  freshWords,
+  reportWords,
+  continuedWords,
+  restLeft,
+  JudgeLeaves,
+  ContinueLeaves,
+};
 use dual_writer::DualWritten;
 use fresh::FreshAnswer;
 use held::Masks;
 use held::SearchRecord;
+use importing::Imported;
 use judging::Judged;
 use papers::Bare;
 use papers::Paper;
@@ -23,6 +37,7 @@ use papers::Refusal;
 use search::Continued;
 use steps::Record;
 use steps::State;
+use text::TextRefusal;
 use trying::Report;
 
 fn paper_number(paper: Paper) -> u64
@@ -80,6 +95,33 @@ pub extern "C" fn finder_write_dual(file: &[u8], dual: &mut [u8], out: &mut [u64
 {
     let written = dual_writer::write_dual(file, dual);
     *out = dual_words(written);
+}
+
+fn text_words(refusal: TextRefusal) -> [u64; 8]
+    ensures { λ r. ⌜ r ≡ textWords (refusal .number) (refusal .place) ⌝ }
+{
+    let number = refusal.number as u64;
+    let place = refusal.place as u64;
+    [number, 2, place, 0, 0, 0, 0, 0]
+}
+
+fn import_words(imported: Imported) -> [u64; 8]
+    ensures { λ r. ⌜ r ≡ importWords (importedTold imported) ⌝ }
+{
+    match imported {
+        Imported::Length(n) => [0, 0, 0, n as u64, 0, 0, 0, 0],
+        Imported::Short => bare_words(Bare::ShortDual, 0, 0),
+        Imported::Refused(refusal) => text_words(refusal),
+    }
+}
+
+#[no_mangle]
+pub extern "C" fn finder_import(text: &[u8], file: &mut [u8], out: &mut [u64; 8])
+    ensures { λ _. ⌜ (now (out .exit) ≡ importWords (importTold (importText (now (text .entry))) (length (now (file .entry)))))
+        × (now (file .exit) ≡ importAfter (importText (now (text .entry))) (now (file .entry))) ⌝ }
+{
+    let imported = importing::import_text(text, file);
+    *out = import_words(imported);
 }
 
 fn flag_number(flag: bool) -> u64

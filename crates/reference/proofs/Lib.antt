@@ -12,5 +12,7 @@ pub mod HeldSearches
 pub mod Contradictions
 -- The four forms of a literal and their conjugates.
 pub mod FourForms
+-- Rules typed as text.
+pub mod TypedTexts
 -- The table of the theorems.
 pub mod ReferenceCalls

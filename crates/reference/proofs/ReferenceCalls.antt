@@ -22,6 +22,10 @@ use Rattle.held.specs.HeldProblem.{heldProblem}
 use Rattle.held.specs.HeldCalls.{freshSearch}
 use Rattle.fresh.specs.Beginning.{freshTold}
 use Rattle.trying.specs.Trying.{problemOf}
+use Rattle.decimals.specs.Text.{ascii}
+use Rattle.text.specs.Lines as text
+use Rattle.text.specs.Lines.{textRefusal}
+use Rattle.text.specs.Importing.{importText}
 use Rattle.reference.specs.Programs.{example21, example21Dual, example31, contradiction, contradictionAllowed, queryD, allowed}
 use Rattle.reference.specs.Programs.{example32, figureP0, figureP3, figureP4, figureQ8, figureQ11}
 use Rattle.reference.proofs.Example21.{accepted21, length21, dual21}
@@ -33,6 +37,9 @@ use Rattle.reference.proofs.HeldSearches.{assumed-begins, assumed-found
 use Rattle.reference.proofs.HeldSearches.{unlisted-refused}
 use Rattle.reference.proofs.Contradictions.{allowed-read, allowed-model, allowed-rounds, allowed-none, allowed-untouched}
 use Rattle.reference.proofs.Contradictions.{allowed-unasked, allowed-open, allowed-found}
+use Rattle.reference.specs.Texts.{typedRule, formsText, typedForms, typedTouching, typedRising, seventeenText, repeated}
+use Rattle.reference.proofs.TypedTexts.{rule-typed, rule-read, forms-typed, forms-read, touching-typed, rising-typed, above-255, leading-zero}
+use Rattle.reference.proofs.TypedTexts.{two-atoms, inside-a-line, earlier-bar, earlier-stray, seventeenth, long-body, fixed-head, overfull}
 use Rattle.reference.proofs.FourForms.{p1, forms-of-p1, default-of-p1, explicit-of-p1, explicit-numbers}
 
 pub record Calls : Type 0 where
@@ -94,6 +101,26 @@ pub record Calls : Type 0 where
   pub allowed-unasked : explains contradictionAllowed [] 1 ≡ false
   pub allowed-open : explains contradictionAllowed [] 0 ≡ true
   pub allowed-found : continue (problemOf allowed) 9 fresh (0 ∷ 0 ∷ []) ≡ whole 3 0 (0 ∷ 0 ∷ []) 5
+  -- Card 4. "The file written is read back as exactly the rules typed."
+  pub rule-typed : importText (ascii "p3 :- -p1, not p0.") ≡ text.accepted typedRule
+  pub rule-read : readFile (encodeFile typedRule) ≡ accepted typedRule
+  pub forms-typed : importText formsText ≡ text.accepted typedForms
+  pub forms-read : readFile (encodeFile typedForms) ≡ accepted typedForms
+  pub touching-typed : importText (ascii "-p1:-notp0,not-p255.") ≡ text.accepted typedTouching
+  pub rising-typed : importText (ascii "abducible p2. abducible p0. abducible p2.") ≡ text.accepted typedRising
+  -- "17 at the first character that starts no permitted token, 18 at the first token the line form doesn't allow, or at the end inside a line; the
+  -- earlier place decides."
+  pub above-255 : importText (ascii "p1 :- p256.") ≡ text.refused (textRefusal 17 6)
+  pub leading-zero : importText (ascii "p0. p01.") ≡ text.refused (textRefusal 17 4)
+  pub two-atoms : importText (ascii "p3p4.") ≡ text.refused (textRefusal 18 2)
+  pub inside-a-line : importText (ascii "p1 ") ≡ text.refused (textRefusal 18 3)
+  pub earlier-bar : importText (ascii "p1 p2 x") ≡ text.refused (textRefusal 18 3)
+  pub earlier-stray : importText (ascii "p1 x p2") ≡ text.refused (textRefusal 17 3)
+  -- "Then the file's own numbers .. the place being the first token of the line whose field fails."
+  pub seventeenth : importText seventeenText ≡ text.refused (textRefusal 3 227)
+  pub long-body : importText (ascii "p0. p1 :- p0,p0,p0,p0,p0,p0,p0,p0,p0,p0,p0,p0,p0,p0,p0,p0,p0.") ≡ text.refused (textRefusal 3 4)
+  pub fixed-head : importText (ascii "p2. p1. abducible p1.") ≡ text.refused (textRefusal 8 4)
+  pub overfull : importText (repeated 257 (ascii "false.")) ≡ text.refused (textRefusal 9 1536)
 
 pub calls : Calls
 calls = record {
@@ -139,4 +166,20 @@ calls = record {
   allowed-unasked = allowed-unasked;
   allowed-open = allowed-open;
   allowed-found = allowed-found;
+  rule-typed = rule-typed;
+  rule-read = rule-read;
+  forms-typed = forms-typed;
+  forms-read = forms-read;
+  touching-typed = touching-typed;
+  rising-typed = rising-typed;
+  above-255 = above-255;
+  leading-zero = leading-zero;
+  two-atoms = two-atoms;
+  inside-a-line = inside-a-line;
+  earlier-bar = earlier-bar;
+  earlier-stray = earlier-stray;
+  seventeenth = seventeenth;
+  long-body = long-body;
+  fixed-head = fixed-head;
+  overfull = overfull;
 }

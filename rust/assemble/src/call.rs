@@ -1,4 +1,9 @@
 //! A call: the rules, the symptoms asked about, and their two papers.
+//!
+//! The rule file is the one that the finder imports the rules as, typed by
+//! [`crate::typed`]: there is no other writer of it.
+
+use finder::{import_text, LONGEST_FILE};
 
 pub const MOST_ATOMS: usize = 256;
 pub const MOST_FAULTS: usize = 16;
@@ -41,7 +46,8 @@ pub struct Rule {
     pub body: Vec<Literal>,
 }
 
-/// What a text says. It is within the limits of document 01.
+/// What a text says. It is within the limits of document 01, and each of its
+/// atoms is a fault or stands in a rule or an integrity rule.
 #[derive(Clone, Debug, Default, PartialEq, Eq)]
 pub struct Call {
     /// The names of the atoms, by number.
@@ -55,22 +61,16 @@ pub struct Call {
 }
 
 impl Call {
-    /// The rule file.
+    /// The rule file: what the typed rules are imported as.
+    ///
+    /// # Panics
+    ///
+    /// Where the call is past a limit, or a fault heads a rule.
     pub fn causes(&self) -> Vec<u8> {
-        let mut file = vec![0x01, 0, 1, 1];
-        put_field(&mut file, 0x02, &[self.names.len() as u16]);
-        put_field(&mut file, 0x03, &self.faults);
-        for Rule { head, body } in &self.rules {
-            put_field(
-                &mut file,
-                0x04,
-                &[vec![head.number()], numbers(body)].concat(),
-            );
-        }
-        for body in &self.integrity_bodies {
-            put_field(&mut file, 0x05, &numbers(body));
-        }
-        put_field(&mut file, 0x7F, &[]);
+        let mut file = vec![0; LONGEST_FILE];
+        let imported = import_text(self.typed().as_bytes(), &mut file);
+        let length = imported.unwrap_or_else(|refusal| panic!("{refusal}"));
+        file.truncate(length);
         file
     }
 
@@ -95,6 +95,7 @@ fn put_field(paper: &mut Vec<u8>, tag: u8, numbers: &[u16]) {
 
 #[cfg(test)]
 mod tests {
+    use super::*;
     use crate::parse;
 
     #[test]
@@ -133,5 +134,29 @@ mod tests {
         ];
         assert_eq!(call.causes(), expected.concat());
         assert_eq!(call.sheet(), [0x06, 0, 2, 0, 0, 0x7F, 0, 0]);
+    }
+
+    #[test]
+    fn the_largest_call_has_the_longest_file() {
+        let literal = Literal {
+            has_not: true,
+            objective: Objective {
+                atom: MOST_ATOMS as u16 - 1,
+                is_negation: true,
+            },
+        };
+        let rule = Rule {
+            head: literal.objective,
+            body: vec![literal; MOST_LITERALS],
+        };
+        let call = Call {
+            faults: (0..MOST_FAULTS as u16).collect(),
+            integrity_bodies: vec![rule.body.clone(); MOST_INTEGRITY_RULES],
+            rules: vec![rule; MOST_RULES],
+            ..Call::default()
+        };
+        let causes = call.causes();
+        assert_eq!(causes.len(), LONGEST_FILE);
+        assert_eq!(causes[4..9], [0x02, 0, 2, 1, 0]);
     }
 }

@@ -1,11 +1,11 @@
-//! Makes the two papers of document 01 of rules written as text, which
-//! `examples/README.md` describes.
+//! Makes the two papers of document 01 of rules written as text with names,
+//! which `examples/README.md` describes.
 //!
 //! * [`tokens`] takes the text apart;
 //! * [`mod@parse`] makes a call of it, or tells the [`mistake`] in it;
-//! * [`call`] is a call, and writes its papers.
-//!
-//! Nothing here comes from a finder.
+//! * [`typed`] writes its rules as Card 4 of document 02 has them typed;
+//! * [`call`] is a call. Its rule file is what `finder` imports these rules as;
+//!   its query sheet is written here.
 
 #![forbid(unsafe_code)]
 
@@ -13,6 +13,7 @@ pub mod call;
 pub mod mistake;
 pub mod parse;
 pub mod tokens;
+pub mod typed;
 
 pub use call::{Call, Literal, Objective, Rule};
 pub use mistake::Mistake;

@@ -1,5 +1,6 @@
 //! Reads the file `rules.txt` of each folder that it is given, writes the
-//! folder's papers, `causes` and `sheet`, and prints the numbers of its atoms.
+//! folder's papers, `causes` and `sheet`, and `typed.txt`, the rules by number
+//! that `causes` is imported from, and prints the numbers of its atoms.
 
 use std::path::{Path, PathBuf};
 use std::process::ExitCode;
@@ -29,9 +30,13 @@ fn assemble(folder: &Path) -> Result<Call, String> {
     let path = folder.join("rules.txt");
     let text = fs::read_to_string(&path).map_err(|error| at(&path, error))?;
     let call = parse(&text).map_err(|mistake| format!("{}, {mistake}", path.display()))?;
-    for (name, paper) in [("causes", call.causes()), ("sheet", call.sheet())] {
+    for (name, content) in [
+        ("typed.txt", call.typed().into_bytes()),
+        ("causes", call.causes()),
+        ("sheet", call.sheet()),
+    ] {
         let path = folder.join(name);
-        fs::write(&path, paper).map_err(|error| at(&path, error))?;
+        fs::write(&path, content).map_err(|error| at(&path, error))?;
     }
     Ok(call)
 }

@@ -13,12 +13,14 @@ use crate::tokens::{tokens, Token};
 const KEPT: [&str; 5] = ["faults", "atoms", "query", "falsum", "not"];
 
 /// Reads a text. Its atoms are numbered in the order in which it names them
-/// under `faults` and `atoms`.
+/// under `faults` and `atoms`. Each is a fault or stands in a rule: the rule file
+/// counts its atoms up to the last that is named there.
 pub fn parse(text: &str) -> Result<Call, Mistake> {
     let mut parser = Parser {
         tokens: tokens(text)?.into_iter(),
         begun: 1,
         call: Call::default(),
+        named: vec![],
         has_query: false,
     };
     while let Some(first) = parser.tokens.next() {
@@ -35,6 +37,13 @@ pub fn parse(text: &str) -> Result<Call, Mistake> {
     if !parser.has_query {
         return Err(at_end("there is no query"));
     }
+    for (atom, &line) in (0..).zip(&parser.named) {
+        if !parser.call.is_typed(atom) {
+            let name = &parser.call.names[usize::from(atom)];
+            let what = format!("`{name}` stands in no rule");
+            return Err(Mistake { line, what });
+        }
+    }
     Ok(parser.call)
 }
 
@@ -44,6 +53,8 @@ struct Parser<'t> {
     /// The first line of the statement that is read.
     begun: usize,
     call: Call,
+    /// The line in which each atom is named, by its number.
+    named: Vec<usize>,
     has_query: bool,
 }
 
@@ -72,6 +83,7 @@ impl<'t> Parser<'t> {
                 call.faults.push(call.names.len() as u16);
             }
             call.names.push(name.to_string());
+            parser.named.push(token.line);
             Ok(())
         })
     }
@@ -231,7 +243,7 @@ mod tests {
                    Größe_2.
             p :- q, not -q,
                  not a.     # A rule may go over lines.
-            -q. query: p, -b*.
+            -q. query: p, -b*. Größe_2.
             falsum :- p,-p. faults: .";
         let call = parse(text).expect("a text without a mistake");
         let objective = |atom, is_negation| Objective { atom, is_negation };
@@ -250,6 +262,10 @@ mod tests {
                 },
                 Rule {
                     head: objective(3, true),
+                    body: vec![],
+                },
+                Rule {
+                    head: objective(4, false),
                     body: vec![],
                 },
             ],
@@ -306,6 +322,17 @@ mod tests {
     }
 
     #[test]
+    fn an_atom_stands_in_a_rule() {
+        let unused = "`q` stands in no rule";
+        is_mistaken("atoms: p,\n q.\np.\nquery: q.\n", 2, unused);
+        is_mistaken("query: .\natoms: r.\natoms: p, q.\np.\nr.", 3, unused);
+        for rule in ["q.", "-q.", "p :- not -q.", "falsum :- q."] {
+            let text = format!("faults: a.\natoms: p, q.\np.\n{rule}\nquery: .\n");
+            assert!(parse(&text).is_ok(), "{text}");
+        }
+    }
+
+    #[test]
     fn a_fault_heads_no_rule() {
         is_mistaken_in_line_3("a :- p.", "`a` is a fault and can't head a rule");
         is_mistaken_in_line_3("p. -b.", "`b` is a fault and can't head a rule");
@@ -333,7 +360,10 @@ mod tests {
 
     #[test]
     fn the_most_there_may_be() {
-        let atoms = |count| format!("{}query: .", items(count, "atoms: p", ".\n"));
+        let atoms = |count| {
+            let facts = items(count, "p", ".\n");
+            format!("{}query: .\n{facts}", items(count, "atoms: p", ".\n"))
+        };
         assert_eq!(parse(&atoms(256)).map(|call| call.names.len()), Ok(256));
         is_mistaken(&atoms(257), 257, "more than 256 atoms");
 

@@ -95,9 +95,22 @@ impl fmt::Display for Told<'_> {
     }
 }
 
+/// A call with a text as a failure tells it.
+pub struct ToldText<'c> {
+    pub text: &'c [u8],
+    pub with: String,
+}
+
+impl fmt::Display for ToldText<'_> {
+    fn fmt(&self, f: &mut fmt::Formatter) -> fmt::Result {
+        writeln!(f, "text  {}", self.text.escape_ascii())?;
+        f.write_str(&self.with)
+    }
+}
+
 #[cfg(test)]
 mod tests {
-    use super::Told;
+    use super::{Told, ToldText};
 
     #[test]
     fn papers_are_told_in_hexadecimal() {
@@ -107,5 +120,14 @@ mod tests {
             with: "scenario 3".to_string(),
         };
         assert_eq!(told.to_string(), "file  7F000A\nsheet 06\nscenario 3");
+    }
+
+    #[test]
+    fn a_text_is_told_as_it_would_be_typed() {
+        let told = ToldText {
+            text: b"p1\r\n:-\x00\xFF",
+            with: "a buffer".to_string(),
+        };
+        assert_eq!(told.to_string(), "text  p1\\r\\n:-\\x00\\xff\na buffer");
     }
 }

@@ -81,6 +81,8 @@ fn can_occur(paper: Paper, number: Number, found: Found) -> bool {
         (Paper::Sheet, Number::Misfit) => is_one_of(&[Tag::Query, Tag::End]),
         (Paper::Sheet, Number::Unlisted) => is_one_of(&[Tag::Query]),
         (Paper::Sheet, _) => false,
+        // Those of a text.
+        (_, Number::StrayCharacter | Number::BrokenLine) => false,
     }
 }
 

@@ -5,6 +5,7 @@ use plain::dual::LONGEST_DUAL;
 use plain::field::{MOST_ABDUCIBLES, MOST_ATOMS, MOST_INTEGRITY_RULES, MOST_LITERALS, MOST_RULES};
 use plain::{dual, encode_dual, Dual, Entry, Form, Literal, ObjectiveLiteral, Program, Refusal};
 
+use crate::buffers::{Buffer, Buffers};
 use crate::tally::{Counted, Feature, Numbers, Tally, OF_FILE};
 
 /// An accepted file: its program and its dual.
@@ -139,31 +140,11 @@ pub(crate) fn is_negation(literal: ObjectiveLiteral) -> bool {
     literal.0 % 2 == 1
 }
 
-/// A buffer lent for the dual of an accepted file.
-pub struct Buffer {
-    pub length: usize,
-    pub dual_length: usize,
-}
-
-const SHORT: &[Feature<Buffer>] = &[
-    ("an empty buffer", |it| it.length == 0),
-    ("one byte too few", |it| it.length + 1 == it.dual_length),
-    ("any other", |it| {
-        0 < it.length && it.length + 1 < it.dual_length
-    }),
-];
-
-const LONG_ENOUGH: &[Feature<Buffer>] = &[
-    ("no byte to spare", |it| it.length == it.dual_length),
-    ("bytes to spare", |it| it.length > it.dual_length),
-];
-
 /// How often each answer came.
 pub struct DualCoverage {
     refused: Numbers,
     accepted: Tally<Accepted>,
-    short: Tally<Buffer>,
-    long_enough: Tally<Buffer>,
+    lent: Buffers,
 }
 
 impl Default for DualCoverage {
@@ -171,8 +152,7 @@ impl Default for DualCoverage {
         DualCoverage {
             refused: Numbers::new("file refused", OF_FILE),
             accepted: Tally::new("files accepted", ACCEPTED),
-            short: Tally::new("refused 11", SHORT),
-            long_enough: Tally::new("written", LONG_ENOUGH),
+            lent: Buffers::default(),
         }
     }
 }
@@ -187,20 +167,12 @@ impl DualCoverage {
     }
 
     pub fn count_lent(&mut self, buffer: &Buffer) {
-        if buffer.length < buffer.dual_length {
-            self.short.count(buffer);
-        } else {
-            self.long_enough.count(buffer);
-        }
+        self.lent.count(buffer);
     }
 
     pub fn parts(&self) -> [&dyn Counted; 4] {
-        [
-            &self.refused,
-            &self.accepted,
-            &self.short,
-            &self.long_enough,
-        ]
+        let [short, long_enough] = self.lent.parts();
+        [&self.refused, &self.accepted, short, long_enough]
     }
 }
 
@@ -278,28 +250,6 @@ mod tests {
         };
         let expected = ["an abducible", "falsum as a fact", "no entry at all"];
         assert_eq!(features(program), expected);
-    }
-
-    #[test]
-    fn every_buffer_is_counted_once() {
-        for length in 0..8 {
-            let buffer = Buffer {
-                length,
-                dual_length: 5,
-            };
-            let count = |features: &[Feature<Buffer>]| {
-                let had = features.iter().filter(|(_, has)| has(&buffer));
-                had.count()
-            };
-            let is_short = length < 5;
-            let expected = if is_short { (1, 0) } else { (0, 1) };
-            assert_eq!((count(SHORT), count(LONG_ENOUGH)), expected);
-
-            let mut coverage = DualCoverage::default();
-            coverage.count_lent(&buffer);
-            assert_eq!(coverage.short.subjects(), u64::from(is_short));
-            assert_eq!(coverage.long_enough.subjects(), u64::from(!is_short));
-        }
     }
 
     #[test]

@@ -9,6 +9,8 @@ pub struct Example {
     pub folder: PathBuf,
     pub readme: String,
     pub rules: String,
+    /// The same by number, as Card 4 of document 02 has them typed.
+    pub typed: String,
     pub causes: Vec<u8>,
     pub sheet: Vec<u8>,
     /// What the desk program prints in the folder.
@@ -39,6 +41,7 @@ impl Example {
         Example {
             readme: text("README.md"),
             rules: text("rules.txt"),
+            typed: text("typed.txt"),
             causes: bytes("causes"),
             sheet: bytes("sheet"),
             expected: text("expected"),

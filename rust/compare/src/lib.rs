@@ -10,6 +10,9 @@
 //! * [`rounds`] puts these together into pairs of papers, and [`files`] into
 //!   files for their duals; [`masks`] makes those of held faults, and
 //!   [`searches`] calls that continue searches;
+//! * [`typing`] types programs as text, [`text_limits`] adds too much to them and
+//!   [`text_damage`] damages their lines, tokens and bytes; [`texts`] puts these
+//!   together;
 //! * [`lent`] makes the buffers and lists that are lent;
 //! * [`examples`] are calls that were not made at random;
 //! * [`definition`] is what a whole search must come to, however it is sliced;
@@ -19,11 +22,17 @@
 //!   must; [`dual_coverage`] does so for the writing of duals, [`judge_coverage`]
 //!   for judging, with what [`judged`] scenarios have, [`fresh_coverage`] for
 //!   beginning a search and [`search_coverage`] for continuing it, with
-//!   [`held_coverage`] for what held faults do and [`spoilt`] for test 14; all but
-//!   the first with the counts of [`tally`].
+//!   [`held_coverage`] for what held faults do and [`spoilt`] for test 14, and
+//!   [`text_coverage`] for importing; all but the first with the counts of
+//!   [`tally`], and where something is written with those of [`buffers`];
+//! * [`surveyed`] is what stands in a text, and with it [`broken_texts`],
+//!   [`unfit_texts`] and [`imported_texts`] are what texts have that are refused by
+//!   17 or 18, refused by the file's own numbers, and accepted.
 
 #![forbid(unsafe_code)]
 
+pub mod broken_texts;
+pub mod buffers;
 pub mod causes;
 pub mod comparison;
 pub mod coverage;
@@ -36,6 +45,7 @@ pub mod fields;
 pub mod files;
 pub mod fresh_coverage;
 pub mod held_coverage;
+pub mod imported_texts;
 pub mod judge_coverage;
 pub mod judged;
 pub mod lent;
@@ -48,5 +58,12 @@ mod run;
 pub mod search_coverage;
 pub mod searches;
 pub mod spoilt;
+pub mod surveyed;
 pub mod tally;
+pub mod text_coverage;
+pub mod text_damage;
+pub mod text_limits;
+pub mod texts;
+pub mod typing;
+pub mod unfit_texts;
 pub mod words;

@@ -15,6 +15,13 @@ pub trait Counted: fmt::Display {
 /// A name for what a subject can have, and whether it has it.
 pub type Feature<S> = (&'static str, fn(&S) -> bool);
 
+/// The names of those features that the subject has.
+#[cfg(test)]
+pub fn names<S>(features: &[Feature<S>], subject: &S) -> Vec<&'static str> {
+    let had = features.iter().filter(|(_, has)| has(subject));
+    had.map(|&(name, _)| name).collect()
+}
+
 /// How many subjects had each feature.
 pub struct Tally<S: 'static> {
     heading: &'static str,

@@ -2,8 +2,8 @@
 //! separate finder.
 
 use plain::{
-    ContinueRefusal, Continued, FreshRefusal, JudgeRefusal, Judgement, Paper, Program, Query,
-    Record, Refusal, State, WriteRefusal,
+    ContinueRefusal, Continued, FreshRefusal, ImportRefusal, JudgeRefusal, Judgement, Paper,
+    Program, Query, Record, Refusal, State, TextRefusal, WriteRefusal,
 };
 
 pub type Words = [u64; 8];
@@ -88,6 +88,19 @@ pub fn of_continuing(answer: &Result<Continued, ContinueRefusal>, given: Record)
     }
 }
 
+pub fn of_importing(answer: &Result<usize, ImportRefusal>) -> Words {
+    match answer {
+        Ok(length) => [0, 0, 0, *length as u64, 0, 0, 0, 0],
+        Err(ImportRefusal::Text(TextRefusal { number, place })) => {
+            [*number as u64, TEXT, *place as u64, 0, 0, 0, 0, 0]
+        }
+        Err(ImportRefusal::ShortFile) => of_refusal(11, None),
+    }
+}
+
+/// What slot 1 tells where the text is refused.
+const TEXT: u64 = 2;
+
 /// The words of a refusal that tells nothing else.
 fn of_refusal(number: u8, of_paper: Option<&Refusal>) -> Words {
     let [number, paper, place] = first_slots(number, of_paper);
@@ -157,6 +170,18 @@ mod tests {
     }
 
     #[test]
+    fn a_refused_text_is_the_third_paper() {
+        let refusal = TextRefusal {
+            number: Number::BrokenLine,
+            place: 6,
+        };
+        let importing = of_importing(&Err(ImportRefusal::Text(refusal)));
+        assert_eq!(importing, [18, 2, 6, 0, 0, 0, 0, 0]);
+        let short = of_importing(&Err(ImportRefusal::ShortFile));
+        assert_eq!(short, [11, 0, 0, 0, 0, 0, 0, 0]);
+    }
+
+    #[test]
     fn refused_masks_have_their_number_alone() {
         let shared = of_fresh(&Err(FreshRefusal::SharedBit));
         let unlisted = of_fresh(&Err(FreshRefusal::UnlistedBit));
@@ -172,6 +197,7 @@ mod tests {
         };
         assert_eq!(of_judging(&Ok(judgement)), [0, 0, 0, 1, 3, 0, 0, 0]);
         assert_eq!(of_writing(&Ok(60)), [0, 0, 0, 60, 0, 0, 0, 0]);
+        assert_eq!(of_importing(&Ok(15)), [0, 0, 0, 15, 0, 0, 0, 0]);
         assert_eq!(of_fresh(&Ok(record(0, 0))), [0, 0, 0, 0, 0, 1, 2, 0]);
         let continued = |state| Continued {
             record: record(7, 1),

@@ -1,7 +1,8 @@
 //! Compares the two finders in writing the duals of random files.
 
+use compare::buffers::Buffer;
 use compare::comparison::{Comparison, Told};
-use compare::dual_coverage::{Accepted, Buffer, DualCoverage};
+use compare::dual_coverage::{Accepted, DualCoverage};
 use compare::files::{mixed_files, FileExaminer};
 use compare::words;
 use plain::dual::LONGEST_DUAL;
@@ -76,7 +77,7 @@ impl Duals {
         for length in [0, shorter, dual_length - 1, dual_length, longer] {
             self.coverage.count_lent(&Buffer {
                 length,
-                dual_length,
+                needed: dual_length,
             });
             self.compare(file, length);
         }

@@ -5,7 +5,7 @@
 use assemble::parse;
 use compare::examples::{examples, Example};
 use compare::judged::is_contradicted;
-use finder::{continue_search, fresh, judge, State};
+use finder::{continue_search, fresh, judge, State, LONGEST_FILE};
 use plain::desk::LIST_LENGTH;
 use plain::dual::LONGEST_DUAL;
 use plain::model::LONGEST_MODEL;
@@ -64,8 +64,22 @@ fn search(example: &Example, allowances: impl Iterator<Item = u32>) {
 fn the_papers_are_those_of_the_rules() {
     each(|example| {
         let call = parse(&example.rules).unwrap_or_else(|mistake| panic!("{mistake}"));
+        assert_eq!(call.typed(), example.typed);
         assert_eq!(call.causes(), example.causes);
         assert_eq!(call.sheet(), example.sheet);
+    });
+}
+
+#[test]
+fn the_rules_as_typed_are_imported_as_the_file() {
+    each(|example| {
+        let (text, length) = (example.typed.as_bytes(), example.causes.len());
+        let mut file = vec![0; LONGEST_FILE];
+        assert_eq!(finder::import_text(text, &mut file), Ok(length));
+        assert_eq!(file[..length], example.causes);
+        let mut file = vec![0; LONGEST_FILE];
+        assert_eq!(plain::import_text(text, &mut file), Ok(length));
+        assert_eq!(file[..length], example.causes);
     });
 }
 

@@ -51,4 +51,12 @@ extern "C" {
         allowance: u32,
         out: *mut u64,
     );
+
+    pub fn finder_import(
+        text: *const u8,
+        text_len: usize,
+        file: *mut u8,
+        file_len: usize,
+        out: *mut u64,
+    );
 }

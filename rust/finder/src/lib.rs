@@ -6,6 +6,7 @@
 mod boundary;
 pub mod dual;
 pub mod fresh;
+pub mod import;
 pub mod judge;
 pub mod refusal;
 pub mod rest;
@@ -14,7 +15,8 @@ pub mod search;
 pub use boundary::SLOTS;
 pub use dual::{write_dual, write_dual_words, WriteRefusal};
 pub use fresh::{fresh, fresh_words, FreshRefusal};
+pub use import::{import_text, import_words, ImportRefusal, LONGEST_FILE};
 pub use judge::{judge, judge_words, JudgeRefusal, Judgement};
-pub use refusal::{Paper, Refusal};
+pub use refusal::{Paper, Refusal, TextRefusal};
 pub use rest::{rest, rest_words, Answer};
 pub use search::{continue_search, continue_words, ContinueRefusal, Continued, Record, State};

@@ -12,8 +12,9 @@
 //!   with falsity from the dual in [`falsity`];
 //! * "The search" is [`search`], and what the desk program prints [`mod@desk`].
 //!
-//! Of document 02, Card 1 is [`held`], which [`search`] goes by, and Card 3 is
-//! [`Model::is_contradictory`], which [`Model::explains`] goes by.
+//! Of document 02, Card 1 is [`held`], which [`search`] goes by, Card 3 is
+//! [`Model::is_contradictory`], which [`Model::explains`] goes by, and Card 4 is
+//! [`mod@import`], which goes by the tokens of [`tokens`].
 
 #![forbid(unsafe_code)]
 
@@ -22,6 +23,7 @@ pub mod dual;
 pub mod falsity;
 pub mod field;
 pub mod held;
+pub mod import;
 pub mod model;
 pub mod numbering;
 pub mod program;
@@ -30,18 +32,21 @@ pub mod refusal;
 pub mod scenario;
 pub mod search;
 pub mod sets;
+pub mod tokens;
 pub mod write;
 
 pub use desk::desk;
 pub use dual::{dual, write_dual, Dual, Entry, Folding};
 pub use falsity::next_false_by_dual;
 pub use held::Held;
+pub use import::{import, import_text};
 pub use model::{explains, judge, model, Interpretation, Judgement, Model};
 pub use numbering::{Atom, Fold, Form, Literal, ObjectiveLiteral};
 pub use program::{Program, Query, Rule};
 pub use read::{read_file, read_papers, read_sheet, rest_of_paper};
 pub use refusal::{
-    ContinueRefusal, FreshRefusal, JudgeRefusal, Number, Paper, Refusal, WriteRefusal,
+    ContinueRefusal, FreshRefusal, ImportRefusal, JudgeRefusal, Number, Paper, Refusal,
+    TextRefusal, WriteRefusal,
 };
 pub use scenario::{contains_assumptions, digits, scenario_count, Digit, Valuation, Value};
 pub use search::{

@@ -75,6 +75,16 @@ pub enum Form {
     Not(ObjectiveLiteral),
 }
 
+impl Form {
+    /// The literal whose form this is.
+    pub fn literal(self) -> Literal {
+        match self {
+            Form::Objective(literal) => Literal(2 * literal.0),
+            Form::Not(literal) => Literal(2 * literal.0 + 1),
+        }
+    }
+}
+
 impl Literal {
     pub fn is_listed(self, atoms: u16) -> bool {
         u32::from(self.0) < 4 * u32::from(atoms)

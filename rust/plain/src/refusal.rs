@@ -1,6 +1,7 @@
 //! Refusals 1 to 10, which name a paper and a place in it, and those of each
 //! call: writing the dual has 11 too, judging 11 to 13, continuing 11 and 14, a
-//! fresh search 15 and 16.
+//! fresh search 15 and 16. Importing has 17 and 18, then the file's own, all of
+//! which name a place in the text, then 11.
 
 use std::fmt;
 
@@ -27,6 +28,10 @@ pub enum Number {
     Overfull = 9,
     /// Bytes after 7F.
     Tail = 10,
+    /// Character that starts no permitted token.
+    StrayCharacter = 17,
+    /// Token the line form doesn't allow, or the end inside a line.
+    BrokenLine = 18,
 }
 
 #[derive(Clone, Copy, Debug, PartialEq, Eq, PartialOrd, Ord, Hash)]
@@ -63,6 +68,24 @@ impl fmt::Display for Refusal {
 }
 
 impl std::error::Error for Refusal {}
+
+/// Why a text was not accepted, and where. The paper named is the text.
+#[derive(Clone, Copy, Debug, PartialEq, Eq)]
+pub struct TextRefusal {
+    pub number: Number,
+    /// The character of 17, the token of 18 or the text's end; for the file's own
+    /// numbers the first token of the line whose field fails.
+    pub place: usize,
+}
+
+/// The line that document 01 prints for a refusal, the text being the paper.
+impl fmt::Display for TextRefusal {
+    fn fmt(&self, f: &mut fmt::Formatter) -> fmt::Result {
+        write!(f, "refused {} text {}", self.number as u8, self.place)
+    }
+}
+
+impl std::error::Error for TextRefusal {}
 
 /// Why a dual was not written.
 #[derive(Clone, Copy, Debug, PartialEq, Eq)]
@@ -146,6 +169,24 @@ impl ContinueRefusal {
             ContinueRefusal::Papers(refusal) => refusal.number as u8,
             ContinueRefusal::ShortDual => 11,
             ContinueRefusal::SpoiltSearch => 14,
+        }
+    }
+}
+
+/// Why a text was not imported.
+#[derive(Clone, Copy, Debug, PartialEq, Eq)]
+pub enum ImportRefusal {
+    /// 17, 18, 3, 8 or 9: the text is not accepted.
+    Text(TextRefusal),
+    /// 11: the lent file buffer is shorter than the file.
+    ShortFile,
+}
+
+impl ImportRefusal {
+    pub fn number(&self) -> u8 {
+        match self {
+            ImportRefusal::Text(refusal) => refusal.number as u8,
+            ImportRefusal::ShortFile => 11,
         }
     }
 }

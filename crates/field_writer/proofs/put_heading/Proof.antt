@@ -1,4 +1,4 @@
--- `dual_writer::writing::put_heading` meets its contract.
+-- `field_writer::put_heading` meets its contract.
 -- Assumes nothing.
 use mathlib.Core.Path.{ap, _∙_}
 use mathlib.Core.List.{List}
@@ -8,8 +8,8 @@ use denote.Ref.{now}
 use lib.ListN.{set, length-set}
 use Rattle.dual.proofs.FilledLaws.{filled-heading}
 use borrow.Author.Needs.{needs}
-use Rattle.dual_writer.proofs.writing.put_heading.Statement.{statement}
-use Rattle.dual_writer.proofs.writing.put_heading.Tie as tie
+use Rattle.field_writer.proofs.put_heading.Statement.{statement}
+use Rattle.field_writer.proofs.put_heading.Tie as tie
 
 slice-write-buffer : tie.Need-slice-write-buffer
 slice-write-buffer c = search needs

@@ -1,4 +1,4 @@
--- `dual_writer::writing::write_end` meets its contract.
+-- `field_writer::write_end` meets its contract.
 -- Assumes nothing.
 use native.Mathlib.Omega.{arith}
 use denote.Ref.{now}
@@ -6,8 +6,8 @@ use lib.ListN.{length-set}
 use Rattle.papers.specs.Encoding.{encodeField}
 use Rattle.dual.proofs.FilledLaws.{filled-three}
 use borrow.Author.Needs.{needs}
-use Rattle.dual_writer.proofs.writing.write_end.Statement.{statement}
-use Rattle.dual_writer.proofs.writing.write_end.Tie as tie
+use Rattle.field_writer.proofs.write_end.Statement.{statement}
+use Rattle.field_writer.proofs.write_end.Tie as tie
 
 slice-write-buffer : tie.Need-slice-write-buffer
 slice-write-buffer c = search needs

@@ -1,0 +1,2 @@
+-- A field as the loop that writes its numbers meets it.
+pub mod FieldWriting

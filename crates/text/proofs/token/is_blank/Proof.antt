@@ -1,0 +1,13 @@
+-- `text::token::is_blank` meets its contract.
+-- Assumes nothing.
+use mathlib.Core.Path.{refl}
+use Rattle.text.specs.Tokens.{isBlank}
+use Rattle.text.proofs.token.is_blank.Statement.{statement}
+use Rattle.text.proofs.token.is_blank.Tie as tie
+
+returns : tie.Need-returns
+unfolding isBlank
+returns c = refl
+
+pub is-blank-spec : {M : Type 1} → statement M
+is-blank-spec = tie.close (tie.spec returns)
