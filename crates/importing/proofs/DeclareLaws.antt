@@ -9,7 +9,6 @@ use native.Mathlib.Omega.{arith}
 use borrow.Author.Tests.{eq-eqb, ne-eqb, eqb-true, lt-leb}
 use lib.Dec.{eqb}
 use lib.ListN.{length, getD, set, length-set, replicate}
-use Rattle.papers.specs.Program.{Program}
 use Rattle.papers.specs.Content.{isAmong}
 use Rattle.papers.specs.Valid.{All, each}
 use Rattle.papers.proofs.Checks.{both}
@@ -19,13 +18,13 @@ use Rattle.text.specs.declared.line.LineRead.the-variants as read
 use Rattle.text.specs.Lines.{accepted, refused, textRefusal, Line, abducible, rule, integrity, fresh, linesOf}
 use Rattle.text.specs.Typed.{Placed, placed, its, declaredIn, programTyped}
 use Rattle.text.specs.Importing.{overfullAt, importText}
-use Rattle.text.specs.Briefly.{tagOf, startOf, headOf, brief}
-use Rattle.text.specs.LineAnswers.{LineTells, LineEnds}
+use Rattle.text.specs.Briefly.{tagOf, startOf, atomOf, brief}
+use Rattle.text.specs.LineAnswers.{LineTells}
 use Rattle.text.proofs.Printed.{Printable, abducible-fits}
 use Rattle.text.proofs.Fitting.{all-split, text-fits}
 use Rattle.text.proofs.Passes.{newAmong, import-checks, abducibles-counted}
 use Rattle.importing.specs.Passes.{linesIn, Typed, typed, declaredNames, newIn, Flagged}
-use Rattle.importing.proofs.LinesWalked.{LinesRead, lines-start, lines-over, met, lines-on, lines-split, all-done}
+use Rattle.importing.proofs.LinesWalked.{LinesRead, lines-start, met, lines-on, lines-split, all-done}
 
 -- ---- one line
 
@@ -41,15 +40,15 @@ names-append [] ys = refl
 names-append (x ∷ xs) ys = ap (λ (l : List ℕ). x .it ∷ l) (names-append xs ys)
 
 -- What a line declares: its atom, or nothing.
-declares : (line : Line) → declaredIn (line ∷ []) ≡ cond (eqb (tagOf line) 0x03) (placed (startOf line) (headOf line) ∷ []) []
-unfolding declaredIn tagOf startOf headOf
+declares : (line : Line) → declaredIn (line ∷ []) ≡ cond (eqb (tagOf line) 0x03) (placed (startOf line) (atomOf line) ∷ []) []
+unfolding declaredIn tagOf startOf atomOf
 declares (abducible start a) = refl
 declares (rule start head body) = refl
 declares (integrity start body) = refl
 
-pub head-is : (line : Line) → brief line .head ≡ headOf line
+pub atom-is : (line : Line) → brief line .atom ≡ atomOf line
 unfolding brief
-head-is line = refl
+atom-is line = refl
 
 pub start-is : (line : Line) → brief line .start ≡ startOf line
 unfolding brief
@@ -59,8 +58,8 @@ pub tag-is : (line : Line) → brief line .tag ≡ tagOf line
 unfolding brief
 tag-is line = refl
 
-declared-small : (line : Line) → tagOf line ≡ 0x03 → Printable line → headOf line < 256
-unfolding tagOf headOf
+declared-small : (line : Line) → tagOf line ≡ 0x03 → Printable line → atomOf line < 256
+unfolding tagOf atomOf
 declared-small (abducible start a) e (abducible-fits h) = omega arith
 declared-small (rule start head body) e h = absurd (omega arith)
 declared-small (integrity start body) e h = absurd (omega arith)
@@ -234,11 +233,11 @@ module _ (text : List ℕ) (was : Typed text) {flags : List Bool} {room at : ℕ
       abbrev walked : LinesRead text (g .done ++ (line ∷ [])) after
       walked = lines-on (g .walked) told e
 
-      head-here : b .head ≡ headOf line
-      head-here = ap (λ (x : Brief). x .head) is ∙ head-is line
+      atom-here : b .atom ≡ atomOf line
+      atom-here = ap (λ (x : Brief). x .atom) is ∙ atom-is line
 
       -- Its atom is below 256, as all of the text's are.
-      small : tagOf line ≡ 0x03 → headOf line < 256
+      small : tagOf line ≡ 0x03 → atomOf line < 256
       small t =
           let s = lines-split text was walked in
           let all = rw (s .1) at (text-fits text (linesIn text) was) in
@@ -247,57 +246,57 @@ module _ (text : List ℕ) (was : Typed text) {flags : List Bool} {room at : ℕ
           head-of : All Printable (line ∷ []) → Printable line
           head-of (each h hs) = h
 
-      new-is : newIn b flags ≡ eqb (tagOf line) 0x03 && not (isAmong (g .seen) (headOf line))
+      new-is : newIn b flags ≡ eqb (tagOf line) 0x03 && not (isAmong (g .seen) (atomOf line))
       unfolding newIn
       new-is =
-          ap (λ (x : ℕ). eqb x 0x03 && not (getD flags (b .head) false)) (ap (λ (x : Brief). x .tag) is ∙ tag-is line)
-          ∙ ap (λ (x : ℕ). eqb (tagOf line) 0x03 && not (getD flags x false)) head-here
-          ∙ ap (λ (x : Bool). eqb (tagOf line) 0x03 && not x) (g .flagged (headOf line))
+          ap (λ (x : ℕ). eqb x 0x03 && not (getD flags (b .atom) false)) (ap (λ (x : Brief). x .tag) is ∙ tag-is line)
+          ∙ ap (λ (x : ℕ). eqb (tagOf line) 0x03 && not (getD flags x false)) atom-here
+          ∙ ap (λ (x : Bool). eqb (tagOf line) 0x03 && not x) (g .flagged (atomOf line))
 
       -- A line that declares nothing new.
       kept : newIn b flags ≡ false → Declaring text flags room after
-      kept n = go (eqb (tagOf line) 0x03) (isAmong (g .seen) (headOf line)) refl refl (sym new-is ∙ n)
+      kept n = go (eqb (tagOf line) 0x03) (isAmong (g .seen) (atomOf line)) refl refl (sym new-is ∙ n)
         where
-          go : (t u : Bool) → eqb (tagOf line) 0x03 ≡ t → isAmong (g .seen) (headOf line) ≡ u → t && not u ≡ false → Declaring text flags room after
+          go : (t u : Bool) → eqb (tagOf line) 0x03 ≡ t → isAmong (g .seen) (atomOf line) ≡ u → t && not u ≡ false → Declaring text flags room after
           go true true t u q =
-              let d = declares line ∙ ap (λ (x : Bool). cond x (placed (startOf line) (headOf line) ∷ []) []) t in
-              grow g line after walked (placed (startOf line) (headOf line) ∷ []) d flags room (g .seen) (g .size) (g .flagged) (g .few)
-              (λ x. again-among (g .seen) (headOf line) x u ∙ ap (cond (eqb (headOf line) x) true) (g .same x)
-              ∙ sym (among-append (map its (declaredIn (g .done))) (headOf line) x))
-              (λ later. ap (λ (k : ℕ). 16 - room + k) (new-again (g .seen) (headOf line) later u))
-              (λ later. overfull-again room (g .seen) (placed (startOf line) (headOf line)) later u)
+              let d = declares line ∙ ap (λ (x : Bool). cond x (placed (startOf line) (atomOf line) ∷ []) []) t in
+              grow g line after walked (placed (startOf line) (atomOf line) ∷ []) d flags room (g .seen) (g .size) (g .flagged) (g .few)
+              (λ x. again-among (g .seen) (atomOf line) x u ∙ ap (cond (eqb (atomOf line) x) true) (g .same x)
+              ∙ sym (among-append (map its (declaredIn (g .done))) (atomOf line) x))
+              (λ later. ap (λ (k : ℕ). 16 - room + k) (new-again (g .seen) (atomOf line) later u))
+              (λ later. overfull-again room (g .seen) (placed (startOf line) (atomOf line)) later u)
           go true false t u q = absurd (true≢false q)
           go false u t v q =
-              let d = declares line ∙ ap (λ (x : Bool). cond x (placed (startOf line) (headOf line) ∷ []) []) t in
+              let d = declares line ∙ ap (λ (x : Bool). cond x (placed (startOf line) (atomOf line) ∷ []) []) t in
               grow g line after walked [] d flags room (g .seen) (g .size) (g .flagged) (g .few)
               (λ x. g .same x ∙ ap (λ (n : List ℕ). isAmong n x) (sym (append-nil (map its (declaredIn (g .done)))))) (λ later. refl) (λ later. refl)
 
       -- One that does.
       module _ (n : newIn b flags ≡ true) where
-        news : (tagOf line ≡ 0x03) × (isAmong (g .seen) (headOf line) ≡ false)
-        news = go (eqb (tagOf line) 0x03) (isAmong (g .seen) (headOf line)) refl refl (sym new-is ∙ n)
+        news : (tagOf line ≡ 0x03) × (isAmong (g .seen) (atomOf line) ≡ false)
+        news = go (eqb (tagOf line) 0x03) (isAmong (g .seen) (atomOf line)) refl refl (sym new-is ∙ n)
           where
-            go : (t u : Bool) → eqb (tagOf line) 0x03 ≡ t → isAmong (g .seen) (headOf line) ≡ u → t && not u ≡ true
-                → (tagOf line ≡ 0x03) × (isAmong (g .seen) (headOf line) ≡ false)
+            go : (t u : Bool) → eqb (tagOf line) 0x03 ≡ t → isAmong (g .seen) (atomOf line) ≡ u → t && not u ≡ true
+                → (tagOf line ≡ 0x03) × (isAmong (g .seen) (atomOf line) ≡ false)
             go true false t u q = (eqb-true (tagOf line) 0x03 t, u)
             go true true t u q = absurd (true≢false (sym q))
             go false u t v q = absurd (true≢false (sym q))
 
         abbrev here : Placed ℕ
-        here = placed (startOf line) (headOf line)
+        here = placed (startOf line) (atomOf line)
 
         declared-here : declaredIn (line ∷ []) ≡ here ∷ []
         declared-here = declares line ∙ ap (λ (x : Bool). cond x (here ∷ []) []) (eq-eqb (tagOf line) 0x03 (news .0))
 
-        added : (room ≡ 0 → ⊥) → Declaring text (set flags (headOf line) true) (room - 1) after
+        added : (room ≡ 0 → ⊥) → Declaring text (set flags (atomOf line) true) (room - 1) after
         added some =
             let u = news .1 in
             let left : room ≡ suc (room - 1) = omega arith in
-            grow g line after walked (here ∷ []) declared-here (set flags (headOf line) true) (room - 1) (headOf line ∷ g .seen) (simp length-set (g .size))
-            (flag-more flags (headOf line) (g .seen) (let s = small (news .0) in let l = g .size in omega arith) (g .flagged)) (let f = g .few in omega arith)
-            (λ x. among-cons (headOf line) (g .seen) x ∙ ap (cond (eqb (headOf line) x) true) (g .same x)
-            ∙ sym (among-append (map its (declaredIn (g .done))) (headOf line) x))
-            (λ later. let h = new-here (g .seen) (headOf line) later u in let f = g .few in omega arith)
+            grow g line after walked (here ∷ []) declared-here (set flags (atomOf line) true) (room - 1) (atomOf line ∷ g .seen) (simp length-set (g .size))
+            (flag-more flags (atomOf line) (g .seen) (let s = small (news .0) in let l = g .size in omega arith) (g .flagged)) (let f = g .few in omega arith)
+            (λ x. among-cons (atomOf line) (g .seen) x ∙ ap (cond (eqb (atomOf line) x) true) (g .same x)
+            ∙ sym (among-append (map its (declaredIn (g .done))) (atomOf line) x))
+            (λ later. let h = new-here (g .seen) (atomOf line) later u in let f = g .few in omega arith)
             (λ later. ap (λ (k : ℕ). overfullAt k (g .seen) (here ∷ later)) left ∙ overfull-new (room - 1) (g .seen) here later u)
 
         -- There is no more room: the text is refused by 3 at this line.
@@ -309,8 +308,8 @@ module _ (text : List ℕ) (was : Typed text) {flags : List Bool} {room at : ℕ
             ap declaredIn (s .1) ∙ declared-append (g .done ++ (line ∷ [])) (s .0) ∙ places-more (g .seen) line (g .done) (declaredIn (s .0))
             ∙ ap (λ (l : List (Placed ℕ)). declaredIn (g .done) ++ (l ++ declaredIn (s .0))) declared-here in
             let names = ap (map its) split ∙ names-append (declaredIn (g .done)) (here ∷ declaredIn (s .0)) in
-            let counted = abducibles-counted (linesIn text) ∙ ap (newAmong []) names ∙ g .counts (headOf line ∷ map its (declaredIn (s .0))) in
-            let new = new-here (g .seen) (headOf line) (map its (declaredIn (s .0))) (news .1) in
+            let counted = abducibles-counted (linesIn text) ∙ ap (newAmong []) names ∙ g .counts (atomOf line ∷ map its (declaredIn (s .0))) in
+            let new = new-here (g .seen) (atomOf line) (map its (declaredIn (s .0))) (news .1) in
             let many : 16 < length (p .abducibles) = omega arith in
             let place : overfullAt 16 [] (declaredIn (linesIn text)) ≡ startOf line =
             ap (overfullAt 16 []) split ∙ g .places (here ∷ declaredIn (s .0)) ∙ ap (λ (k : ℕ). overfullAt k (g .seen) (here ∷ declaredIn (s .0))) z
@@ -318,13 +317,13 @@ module _ (text : List ℕ) (was : Typed text) {flags : List Bool} {room at : ℕ
             import-checks text (linesIn text) p was refl ∙ rw (lt-leb (length (p .abducibles)) 16 many, place)
 
       pub declare-on : {new : Bool} {left : ℕ} {more : List Bool} → new ≡ newIn b flags → new && eqb room 0 ≡ false → left ≡ cond new (room - 1) room
-          → more ≡ cond new (set flags (b .head) true) flags → Declaring text more left after
+          → more ≡ cond new (set flags (b .atom) true) flags → Declaring text more left after
       declare-on {new} {left} {more} n h l m = go new n h l m
         where
           go : (t : Bool) → t ≡ newIn b flags → t && eqb room 0 ≡ false → left ≡ cond t (room - 1) room
-              → more ≡ cond t (set flags (b .head) true) flags → Declaring text more left after
+              → more ≡ cond t (set flags (b .atom) true) flags → Declaring text more left after
           go true q k x y =
-              let z : more ≡ set flags (headOf line) true = y ∙ ap (λ (i : ℕ). set flags i true) head-here in
+              let z : more ≡ set flags (atomOf line) true = y ∙ ap (λ (i : ℕ). set flags i true) atom-here in
               rw (z, x) (added (sym q) (λ w. true≢false (sym (eq-eqb room 0 w) ∙ k)))
           go false q k x y = rw (y, x) (kept (sym q))
 

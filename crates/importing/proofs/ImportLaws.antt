@@ -8,10 +8,10 @@ use native.Mathlib.Decide.{decLt, ℕ-discrete}
 use native.Mathlib.Omega.{arith}
 use borrow.Author.Tests.{eq-eqb, ne-eqb, le-leb, lt-leb}
 use lib.Dec.{leb}
-use lib.ListN.{length, getD, take, length-append}
+use lib.ListN.{length}
 use Rattle.papers.specs.Program.{Rule, Program}
 use Rattle.papers.specs.Content.{isAmong}
-use Rattle.papers.specs.Encoding.{encodeNumbers, encodeField, encodeRun, ruleNumbers, encodeFile}
+use Rattle.papers.specs.Encoding.{encodeField, ruleNumbers, encodeFile}
 use Rattle.papers.specs.Answers.{fieldsLength}
 use Rattle.papers.specs.Valid.{All, none, each, ValidBody, ValidRule, Valid}
 use Rattle.papers.proofs.Lists.{all-map, all-each}
@@ -19,7 +19,7 @@ use Rattle.papers.proofs.Sizes.{length-file, file-bound}
 use Rattle.dual.specs.Bytes.{filled}
 use Rattle.text.specs.declared.TextRefusal.{TextRefusal}
 use Rattle.text.specs.Lines.{Reading, accepted, refused, Line, abducible, rule, integrity, linesOf}
-use Rattle.text.specs.Typed.{Placed, placed, its, declaredIn, rulesIn, integrityIn, namedIn, countOf, risingFrom, programTyped}
+use Rattle.text.specs.Typed.{Placed, placed, its, rulesIn, integrityIn, namedIn, countOf, risingFrom, programTyped}
 use Rattle.text.specs.Importing.{checkRun, importText}
 use Rattle.text.specs.Briefly.{tagOf, startOf, numbersOf}
 use Rattle.text.proofs.ReadBack.{imported}
@@ -32,7 +32,7 @@ use Rattle.importing.specs.declared.checking.RunsChecked.{RunsChecked}
 use Rattle.importing.specs.declared.checking.RunsChecked.the-variants as both
 use Rattle.importing.specs.Imports.{importedTold, importTold, tells, importAfter}
 use Rattle.importing.specs.Passes.{linesIn, Typed, typed, declaredNames, Flagged, flaggedFrom, listOf, fieldsIn, contentsIn, runsChecked, RunsTell}
-use Rattle.importing.specs.Passes.{Within, Sized, fromIntegrity, fromRules, fromAbducibles, fromAtoms, FileFits}
+use Rattle.importing.specs.Passes.{Within, Sized, fromIntegrity, fromRules, fromAbducibles, fromAtoms}
 use Rattle.importing.proofs.RisingLaws.{flagged-rising}
 use Rattle.importing.proofs.RunWriting.{padded-taken}
 

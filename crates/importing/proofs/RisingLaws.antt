@@ -3,12 +3,10 @@
 use mathlib.Core.Path.{_≡_, refl, sym, ap, _∙_}
 use mathlib.Core.Bool.{Bool, true, false, cond}
 use mathlib.Core.List.{List, [], _∷_, _++_, append-nil}
-use Prim.Native.Nat.{ℕ, zero, suc, _+_, _≤_, _<_}
+use Prim.Native.Nat.{ℕ, zero, suc, _+_, _≤_}
 use native.Mathlib.Omega.{arith}
-use lib.ListN.{length, getD, set, length-append}
-use Rattle.papers.specs.Content.{isAmong}
+use lib.ListN.{length, getD, length-append}
 use Rattle.text.specs.Typed.{risingFrom}
-use Rattle.text.specs.LineNumbers.{padded}
 use Rattle.text.proofs.Gathering.{padded-more}
 use Rattle.importing.specs.declared.declaring.Abducibles.{Abducibles}
 use Rattle.importing.specs.Passes.{Flagged, flaggedFrom, listOf, listedWith}

@@ -6,7 +6,7 @@ use mathlib.Core.List.{List, [], _∷_, _++_, map, append-assoc, append-nil}
 use Prim.Native.Nat.{ℕ, zero, suc, _+_, _*_, _/_, _%_, _-_, _≤_, _<_}
 use native.Mathlib.Decide.{decLt, ℕ-discrete}
 use native.Mathlib.Omega.{arith}
-use borrow.Author.Tests.{eq-eqb, ne-eqb, eqb-true, lt-ltb, le-ltb, le-leb, lt-leb, leb-true}
+use borrow.Author.Tests.{eq-eqb, ne-eqb, lt-ltb, le-ltb, lt-leb, leb-true}
 use lib.Dec.{eqb, leb}
 use lib.ListN.{length, getD}
 use Rattle.papers.specs.Program.{Program}
@@ -20,9 +20,9 @@ use Rattle.text.specs.declared.line.Brief.{Brief}
 use Rattle.text.specs.declared.line.LineRead.{LineRead}
 use Rattle.text.specs.declared.line.LineRead.the-variants as read
 use Rattle.text.specs.Lines.{Reading, accepted, refused, textRefusal, passing, Line, abducible, rule, integrity, fresh, linesOf}
-use Rattle.text.specs.Typed.{Placed, placed, its, rulesIn, integrityIn, namedIn, countOf, programTyped}
-use Rattle.text.specs.Importing.{headingFault, checkRun}
-use Rattle.text.specs.Briefly.{tagOf, startOf, headOf, numbersOf, few, brief}
+use Rattle.text.specs.Typed.{Placed, placed, its, rulesIn, integrityIn, namedIn, programTyped}
+use Rattle.text.specs.Importing.{checkRun}
+use Rattle.text.specs.Briefly.{tagOf, startOf, atomOf, numbersOf, few, brief}
 use Rattle.text.specs.LineAnswers.{LineTells}
 use Rattle.text.proofs.ReadBack.{heading-is}
 use Rattle.text.proofs.BriefLaws.{named-append}
@@ -32,8 +32,8 @@ use Rattle.importing.specs.declared.checking.RunChecked.{RunChecked}
 use Rattle.importing.specs.declared.checking.RunChecked.the-variants.{Length, Refused}
 use Rattle.importing.specs.declared.checking.RunsChecked.the-variants as both
 use Rattle.importing.specs.Passes.{linesIn, Typed, typed, Flagged, fieldsIn, fixedIn, lineNumber, roomAfter, sizeAfter, RunTells, RunsTell}
-use Rattle.importing.proofs.LinesWalked.{LinesRead, lines-start, lines-over, met, lines-on, lines-split, all-done}
-use Rattle.importing.proofs.DeclareLaws.{head-is, start-is, tag-is}
+use Rattle.importing.proofs.LinesWalked.{LinesRead, lines-start, met, lines-on, lines-split, all-done}
+use Rattle.importing.proofs.DeclareLaws.{atom-is, start-is, tag-is}
 
 -- ---- one line
 
@@ -107,8 +107,8 @@ few-same n h = elim (decLt n 18) [
 
 -- Of a line's content only the head can fail, by 8.
 content-fault : (tag n : ℕ) (abducibles : List ℕ) (line : Line) → 4 ≤ tag → tagOf line ≡ tag → All (_< n) (namedIn (line ∷ []))
-    → bodyFault tag n abducibles (numbersOf line) ≡ check (not (eqb tag 0x04 && isAmong abducibles (headOf line / 2))) 8 0
-unfolding tagOf headOf numbersOf rulesIn integrityIn
+    → bodyFault tag n abducibles (numbersOf line) ≡ check (not (eqb tag 0x04 && isAmong abducibles (atomOf line))) 8 0
+unfolding tagOf atomOf numbersOf rulesIn integrityIn
 content-fault tag n abducibles (abducible start a) h e listed = absurd (omega arith)
 content-fault tag n abducibles (rule start head body) h e listed =
     rw (← e) (go (rules-checked n abducibles (rule start head body ∷ []) listed))
@@ -275,13 +275,13 @@ module _ (text : List ℕ) where
 
         module _ (flags : List Bool) (flagged : Flagged flags abducibles) {number : ℕ} (q : number ≡ lineNumber b tag room (fixedIn b tag flags)) where
           abbrev fixed : Bool
-          fixed = eqb tag 0x04 && isAmong abducibles (headOf line / 2)
+          fixed = eqb tag 0x04 && isAmong abducibles (atomOf line)
 
           fixed-is : fixedIn b tag flags ≡ fixed
           unfolding fixedIn
           fixed-is =
-              ap (λ (x : ℕ). eqb tag 0x04 && getD flags (x / 2) false) (ap (λ (x : Brief). x .head) is ∙ head-is line)
-              ∙ ap (λ (x : Bool). eqb tag 0x04 && x) (flagged (headOf line / 2))
+              ap (λ (x : ℕ). eqb tag 0x04 && getD flags x false) (ap (λ (x : Brief). x .atom) is ∙ atom-is line)
+              ∙ ap (λ (x : Bool). eqb tag 0x04 && x) (flagged (atomOf line))
 
           number-is : number ≡ cond (eqb (tagOf line) tag)
               (check (not (eqb room 0)) 9 (check (lengthAllowed tag (2 * length (numbersOf line))) 3 (check (not fixed) 8 0))) 0

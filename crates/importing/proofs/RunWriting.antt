@@ -3,7 +3,7 @@
 use mathlib.Core.Path.{_≡_, refl, sym, ap, _∙_}
 use mathlib.Core.Bool.{Bool, true, false, cond}
 use mathlib.Core.List.{List, [], _∷_, _++_, map, append-assoc, append-nil}
-use Prim.Native.Nat.{ℕ, zero, suc, _+_, _*_, _≤_, _<_}
+use Prim.Native.Nat.{ℕ, zero, suc, _+_, _≤_, _<_}
 use native.Mathlib.Omega.{arith}
 use borrow.Author.Tests.{eq-eqb, ne-eqb}
 use lib.Dec.{eqb}
@@ -16,16 +16,16 @@ use Rattle.text.specs.declared.line.Brief.{Brief}
 use Rattle.text.specs.declared.line.LineRead.{LineRead}
 use Rattle.text.specs.declared.line.LineRead.the-variants as read
 use Rattle.text.specs.Lines.{Reading, accepted, andThen, Line, fresh, linesOf}
-use Rattle.text.specs.Typed.{Placed, its}
-use Rattle.text.specs.Briefly.{tagOf, startOf, numbersOf, few, brief}
+use Rattle.text.specs.Typed.{its}
+use Rattle.text.specs.Briefly.{tagOf, startOf, numbersOf, brief}
 use Rattle.text.specs.LineAnswers.{linesAt, LineTells}
 use Rattle.text.specs.LineNumbers.{padded, NumbersTell}
 use Rattle.text.proofs.Readings.{through}
 use Rattle.text.proofs.Fitting.{all-split}
-use Rattle.importing.specs.Passes.{linesIn, Typed, fieldsIn, contentsIn, lineBytes, LineFits, LineFills, Within, RunFits}
+use Rattle.importing.specs.Passes.{Typed, fieldsIn, contentsIn, lineBytes, LineFits, LineFills, Within, RunFits}
 use Rattle.importing.proofs.LinesWalked.{LinesRead, lines-start, met, lines-on, lines-split, all-done}
 use Rattle.importing.proofs.DeclareLaws.{tag-is}
-use Rattle.importing.proofs.RunLaws.{fields-append, field-own, field-other, contents-more, its-append, fewer}
+use Rattle.importing.proofs.RunLaws.{fields-append, field-own, contents-more, its-append, fewer}
 
 -- ---- bytes
 

@@ -2,8 +2,8 @@
 use mathlib.Core.Path.{_≡_}
 use mathlib.Core.Bool.{Bool, false, not, _&&_, cond}
 use mathlib.Core.List.{List, [], _∷_, _++_, map}
-use Prim.Native.Nat.{ℕ, zero, suc, _+_, _*_, _/_, _-_, _≤_}
-use lib.Dec.{eqb, leb}
+use Prim.Native.Nat.{ℕ, zero, suc, _+_, _*_, _-_, _≤_}
+use lib.Dec.{eqb}
 use lib.ListN.{length, getD, take, set}
 use Rattle.papers.specs.Program.{Program}
 use Rattle.papers.specs.Outcome.{check}
@@ -53,7 +53,7 @@ surveyAnswer (refused r) = surveyed.Refused r
 
 -- Whether a line declares an atom whose flag is not set.
 unfoldable pub newIn : Brief → List Bool → Bool
-newIn b flags = eqb (b .tag) 0x03 && not (getD flags (b .head) false)
+newIn b flags = eqb (b .tag) 0x03 && not (getD flags (b .atom) false)
 
 -- The flags that are set are those of these atoms.
 abbrev pub Flagged : List Bool → List ℕ → Type 0
@@ -96,7 +96,7 @@ contentsIn tag text = map its (fieldsIn tag (linesIn text))
 
 -- Whether a rule is headed by a flagged atom or its negation.
 unfoldable pub fixedIn : Brief → ℕ → List Bool → Bool
-fixedIn b tag flags = eqb tag 0x04 && getD flags (b .head / 2) false
+fixedIn b tag flags = eqb tag 0x04 && getD flags (b .atom) false
 
 -- The number by which a line fails that is of the tag, where there is room for so many more: count (9), length (3), head (8).
 unfoldable pub lineNumber : Brief → ℕ → ℕ → Bool → ℕ

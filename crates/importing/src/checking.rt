@@ -18,7 +18,7 @@ pub enum RunChecked {
 fn is_fixed(line: Brief, tag: u8, flags: [bool; 256]) -> bool
     ensures { λ r. ⌜ r ≡ fixedIn line tag flags ⌝ }
 {
-    (tag == 4) & flag_at(flags, line.head / 2)
+    (tag == 4) & flag_at(flags, line.atom)
 }
 
 // The number by which a line fails, and 0 where it passes or is of another tag.

@@ -29,7 +29,7 @@ pub(crate) fn flag_at(flags: [bool; 256], atom: usize) -> bool
 fn is_new(line: Brief, flags: [bool; 256]) -> bool
     ensures { λ r. ⌜ r ≡ newIn line flags ⌝ }
 {
-    (line.tag == 3) & !flag_at(flags, line.head)
+    (line.tag == 3) & !flag_at(flags, line.atom)
 }
 
 // The flags, with that of a new atom set.
@@ -84,7 +84,7 @@ pub(crate) fn declare(text: &[u8]) -> Declared
             return Declared { refusal, flags };
         }
         room = room_left(room, new);
-        let more = flag(flags, line.head, new);
+        let more = flag(flags, line.atom, new);
         flags = more;
         at = end;
     }

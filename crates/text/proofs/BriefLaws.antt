@@ -16,7 +16,7 @@ use Rattle.text.specs.declared.line.Move.the-variants.{Goes}
 use Rattle.text.specs.Lines.{Line, abducible, rule, integrity, also, State, fresh, declaring, declared, negated, headed, due, denied, negatedIn}
 use Rattle.text.specs.Lines.{deniedNegated, said, Step, isAtom, isMinus, isNot, isArrow, isComma, isStop, isAbducible, isFalse, step}
 use Rattle.text.specs.Typed.{atomsOf, namedIn, larger, countOf}
-use Rattle.text.specs.Briefly.{tagOf, startOf, headOf, numbersOf, few, briefly, brief, stageOf, moveOf, denialBriefly, openedBriefly, alsoBriefly}
+use Rattle.text.specs.Briefly.{tagOf, startOf, atomOf, numbersOf, few, briefly, brief, stageOf, moveOf, denialBriefly, openedBriefly, alsoBriefly}
 use Rattle.text.specs.Briefly.{stepBriefly}
 use Rattle.text.proofs.Fitting.{count-some}
 
@@ -96,17 +96,17 @@ above-more (integrity start body) a l h e = body-counted (atomsOf (body ++ (l �
 
 -- ---- a line with one more literal
 
-grown : (tag start head above new : ℕ) (ns : List ℕ) (l : ℕ) → new ≡ above
-    → briefly tag start head new (few (length (ns ++ (l ∷ [])))) ≡ briefly tag start head above (few (few (length ns) + 1))
-grown tag start head above new ns l e =
+grown : (tag start atom above new : ℕ) (ns : List ℕ) (l : ℕ) → new ≡ above
+    → briefly tag start atom new (few (length (ns ++ (l ∷ [])))) ≡ briefly tag start atom above (few (few (length ns) + 1))
+grown tag start atom above new ns l e =
     let size : length (ns ++ (l ∷ [])) ≡ length ns + 1 = length-append ns (l ∷ []) in
     rw (e, size, few-more (length ns))
 
 brief-also : (line : Line) (a l : ℕ) → l / 4 ≡ a → brief (also line l) ≡ alsoBriefly (brief line) a
-unfolding brief alsoBriefly tagOf startOf headOf numbersOf
+unfolding brief alsoBriefly tagOf startOf atomOf numbersOf
 brief-also (abducible start b) a l e = refl
 brief-also (rule start head body) a l e =
-    grown 0x04 start head _ _ (head ∷ body) l (above-more (rule start head body) a l (unfold tagOf in λ q. omega arith) e)
+    grown 0x04 start (head / 2) _ _ (head ∷ body) l (above-more (rule start head body) a l (unfold tagOf in λ q. omega arith) e)
 brief-also (integrity start body) a l e = grown 0x05 start 0 _ _ body l (above-more (integrity start body) a l (unfold tagOf in λ q. omega arith) e)
 
 said-brief : (line : Line) (a l : ℕ) → l / 4 ≡ a → Goes (stage.Said (brief (also line l))) ≡ Goes (stage.Said (alsoBriefly (brief line) a))
@@ -114,16 +114,16 @@ said-brief line a l q = ap (λ (b : Brief). Goes (stage.Said b)) (brief-also lin
 
 -- ---- a line that begins
 
-rule-opened : (start head a : ℕ) → head / 2 ≡ a → brief (rule start head []) ≡ openedBriefly 0x04 start head a
-unfolding brief tagOf startOf headOf numbersOf namedIn few atomsOf
+rule-opened : (start head a : ℕ) → head / 2 ≡ a → brief (rule start head []) ≡ openedBriefly 0x04 start a
+unfolding brief tagOf startOf atomOf numbersOf namedIn few atomsOf
 rule-opened start head a e = rw (e, one-counted a)
 
-declared-opened : (start a : ℕ) → brief (abducible start a) ≡ openedBriefly 0x03 start a a
-unfolding brief tagOf startOf headOf numbersOf namedIn few
+declared-opened : (start a : ℕ) → brief (abducible start a) ≡ openedBriefly 0x03 start a
+unfolding brief tagOf startOf atomOf numbersOf namedIn few
 declared-opened start a = rw (one-counted a)
 
 denied-opened : (start : ℕ) → brief (integrity start []) ≡ denialBriefly start
-unfolding brief tagOf startOf headOf numbersOf namedIn few atomsOf countOf
+unfolding brief tagOf startOf atomOf numbersOf namedIn few atomsOf countOf
 denied-opened start = refl
 
 -- ---- what a token does

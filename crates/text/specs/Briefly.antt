@@ -1,10 +1,9 @@
 -- The automaton of a line as the code runs it: of what a line says it holds all but the literals.
 use mathlib.Core.Bool.{Bool, true, false, cond}
 use mathlib.Core.List.{List, [], _∷_}
-use Prim.Native.Nat.{ℕ, _+_}
+use Prim.Native.Nat.{ℕ, _+_, _/_}
 use lib.Dec.{eqb, ltb}
 use lib.ListN.{length}
-use Rattle.literals.specs.Numbering.{positive, negative}
 use Rattle.text.specs.declared.line.Brief.{Brief}
 use Rattle.text.specs.declared.line.Stage.{Stage}
 use Rattle.text.specs.declared.line.Stage.the-variants as stage
@@ -34,18 +33,18 @@ numbersOf (integrity start body) = body
 unfoldable pub few : ℕ → ℕ
 few n = cond (ltb n 18) n 18
 
--- A declared atom, or a rule's head.
-unfoldable pub headOf : Line → ℕ
-headOf (abducible start a) = a
-headOf (rule start head body) = head
-headOf (integrity start body) = 0
+-- The atom that a line declares, or that of its head.
+unfoldable pub atomOf : Line → ℕ
+atomOf (abducible start a) = a
+atomOf (rule start head body) = head / 2
+atomOf (integrity start body) = 0
 
 abbrev pub briefly : ℕ → ℕ → ℕ → ℕ → ℕ → Brief
-briefly tag start head above count = record { tag = tag; start = start; head = head; above = above; count = count }
+briefly tag start atom above count = record { tag = tag; start = start; atom = atom; above = above; count = count }
 
 -- A line, briefly.
 unfoldable pub brief : Line → Brief
-brief line = briefly (tagOf line) (startOf line) (headOf line) (countOf (namedIn (line ∷ []))) (few (length (numbersOf line)))
+brief line = briefly (tagOf line) (startOf line) (atomOf line) (countOf (namedIn (line ∷ []))) (few (length (numbersOf line)))
 
 abbrev pub stageOf : State → Stage
 stageOf fresh = stage.Fresh
@@ -68,12 +67,12 @@ moveOf bars = Bars
 abbrev pub denialBriefly : ℕ → Brief
 denialBriefly start = briefly 0x05 start 0 1 0
 
-abbrev pub openedBriefly : ℕ → ℕ → ℕ → ℕ → Brief
-openedBriefly tag start head a = briefly tag start head (a + 1) 1
+abbrev pub openedBriefly : ℕ → ℕ → ℕ → Brief
+openedBriefly tag start a = briefly tag start a (a + 1) 1
 
 -- One more literal, of an atom.
 unfoldable pub alsoBriefly : Brief → ℕ → Brief
-alsoBriefly b a = cond (eqb (b .tag) 0x03) b (briefly (b .tag) (b .start) (b .head) (larger (b .above) (a + 1)) (few (b .count + 1)))
+alsoBriefly b a = cond (eqb (b .tag) 0x03) b (briefly (b .tag) (b .start) (b .atom) (larger (b .above) (a + 1)) (few (b .count + 1)))
 
 -- What a token does.
 unfoldable pub stepBriefly : Stage → ℕ → ℕ → ℕ → Move
@@ -81,10 +80,10 @@ stepBriefly stage.Fresh place kind a =
     cond (isAbducible kind) (Goes (stage.Declaring place))
     (cond (isFalse kind) (Goes (stage.Headed (denialBriefly place)))
     (cond (isMinus kind) (Goes (stage.Negated place))
-    (cond (isAtom kind) (Goes (stage.Headed (openedBriefly 0x04 place (positive a) a))) Bars)))
-stepBriefly (stage.Declaring start) place kind a = cond (isAtom kind) (Goes (stage.Declared (openedBriefly 0x03 start a a))) Bars
+    (cond (isAtom kind) (Goes (stage.Headed (openedBriefly 0x04 place a))) Bars)))
+stepBriefly (stage.Declaring start) place kind a = cond (isAtom kind) (Goes (stage.Declared (openedBriefly 0x03 start a))) Bars
 stepBriefly (stage.Declared b) place kind a = cond (isStop kind) (Ends b) Bars
-stepBriefly (stage.Negated start) place kind a = cond (isAtom kind) (Goes (stage.Headed (openedBriefly 0x04 start (negative a) a))) Bars
+stepBriefly (stage.Negated start) place kind a = cond (isAtom kind) (Goes (stage.Headed (openedBriefly 0x04 start a))) Bars
 stepBriefly (stage.Headed b) place kind a = cond (isStop kind) (Ends b) (cond (isArrow kind) (Goes (stage.Due b)) Bars)
 stepBriefly (stage.Due b) place kind a =
     cond (isNot kind) (Goes (stage.Denied b))

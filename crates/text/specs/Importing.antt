@@ -6,7 +6,7 @@ use Rattle.papers.specs.Program.{Program}
 use Rattle.papers.specs.Field.{fieldFault}
 use Rattle.papers.specs.Content.{atomsFault, abduciblesFault, bodyFault, isAmong}
 use Rattle.papers.specs.Encoding.{encodeNumbers, encodeField}
-use Rattle.text.specs.Lines.{Reading, accepted, refused, textRefusal, passing, andThen, Line, linesOf}
+use Rattle.text.specs.Lines.{Reading, accepted, passing, andThen, Line, linesOf}
 use Rattle.text.specs.Typed.{Placed, declaredIn, rulesIn, integrityIn, programTyped}
 
 -- The checks of a field's heading, as they are made of the field with these numbers.

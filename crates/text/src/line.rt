@@ -13,12 +13,12 @@ use crate::Scanned;
 use crate::TextRefusal;
 use crate::token::next_token;
 
-// What a line says, briefly: the tag of its field, the place of its first token, its declared atom or its head, one more than the
-// greatest atom that it names, and how many numbers it has in its field, 18 standing for 18 or more.
+// What a line says, briefly: the tag of its field, the place of its first token, the atom that it declares or that of its head, one
+// more than the greatest atom that it names, and how many numbers it has in its field, 18 standing for 18 or more.
 pub struct Brief {
     pub tag: u8,
     pub start: usize,
-    pub head: usize,
+    pub atom: usize,
     pub above: usize,
     pub count: usize,
 }
@@ -50,20 +50,20 @@ fn denial(start: usize) -> Brief
     Brief {
         tag: 5,
         start,
-        head: 0,
+        atom: 0,
         above: 1,
         count: 0,
     }
 }
 
-fn opened(tag: u8, start: usize, head: usize, atom: usize) -> Brief
+fn opened(tag: u8, start: usize, atom: usize) -> Brief
     requires { ⌜ atom ≤ 255 ⌝ }
-    ensures { λ r. ⌜ r ≡ openedBriefly tag start head atom ⌝ }
+    ensures { λ r. ⌜ r ≡ openedBriefly tag start atom ⌝ }
 {
     Brief {
         tag,
         start,
-        head,
+        atom,
         above: atom + 1,
         count: 1,
     }
@@ -93,7 +93,7 @@ fn also(line: Brief, atom: usize) -> Brief
     Brief {
         tag: line.tag,
         start: line.start,
-        head: line.head,
+        atom: line.atom,
         above: greater(line.above, atom + 1),
         count: one_more(line.count),
     }
@@ -114,7 +114,7 @@ fn begun(place: usize, kind: u8, atom: usize) -> Move
         return Move::Goes(Stage::Negated(place));
     }
     if kind == 0x70 {
-        return Move::Goes(Stage::Headed(opened(4, place, 2 * atom, atom)));
+        return Move::Goes(Stage::Headed(opened(4, place, atom)));
     }
     Move::Bars
 }
@@ -125,7 +125,7 @@ fn declared(start: usize, kind: u8, atom: usize) -> Move
     ensures { λ r. ⌜ r ≡ stepBriefly (stage.Declaring start) 0 kind atom ⌝ }
 {
     if kind == 0x70 {
-        return Move::Goes(Stage::Declared(opened(3, start, atom, atom)));
+        return Move::Goes(Stage::Declared(opened(3, start, atom)));
     }
     Move::Bars
 }
@@ -146,7 +146,7 @@ fn headed(start: usize, kind: u8, atom: usize) -> Move
     ensures { λ r. ⌜ r ≡ stepBriefly (stage.Negated start) 0 kind atom ⌝ }
 {
     if kind == 0x70 {
-        return Move::Goes(Stage::Headed(opened(4, start, 2 * atom + 1, atom)));
+        return Move::Goes(Stage::Headed(opened(4, start, atom)));
     }
     Move::Bars
 }
@@ -214,7 +214,7 @@ fn parted(line: Brief, kind: u8) -> Move
 }
 
 // What a token does.
-pub fn step(stage: Stage, place: usize, kind: u8, atom: usize) -> Move
+pub(crate) fn step(stage: Stage, place: usize, kind: u8, atom: usize) -> Move
     requires { ⌜ atom ≤ 255 ⌝ }
     ensures { λ r. ⌜ r ≡ stepBriefly stage place kind atom ⌝ }
 {

@@ -3,7 +3,6 @@
 use native.Mathlib.Omega.{arith}
 use denote.Ref.{now}
 use Rattle.importing.proofs.ImportLaws.{file-short, file-written}
-use borrow.Author.Needs.{needs}
 use Rattle.importing.proofs.import_checked.Statement.{statement}
 use Rattle.importing.proofs.import_checked.Tie as tie
 

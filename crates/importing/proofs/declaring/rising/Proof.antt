@@ -1,9 +1,8 @@
 -- `importing::declaring::rising` meets its contract. The loop's invariant: the flagged atoms up to here are listed.
 -- Assumes nothing.
-use mathlib.Core.Path.{_≡_, refl, sym, ap, _∙_}
+use mathlib.Core.Path.{_≡_, ap, _∙_}
 use Prim.Native.Nat.{ℕ, _-_, _≤_}
 use native.Mathlib.Omega.{arith}
-use lib.ListN.{length}
 use Rattle.text.specs.LineNumbers.{padded}
 use Rattle.importing.specs.declared.declaring.Abducibles.{Abducibles}
 use Rattle.importing.specs.Passes.{flaggedFrom, listOf}

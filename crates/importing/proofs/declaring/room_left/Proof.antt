@@ -1,6 +1,5 @@
 -- `importing::declaring::room_left` meets its contract.
 -- Assumes nothing.
-use native.Mathlib.Omega.{arith}
 use borrow.Author.Tests.{not-true, not-false}
 use borrow.Author.Needs.{needs}
 use Rattle.importing.proofs.declaring.room_left.Statement.{statement}

@@ -1,13 +1,13 @@
 -- `importing::writing::write_atoms` meets its contract.
 -- Assumes nothing.
 use mathlib.Core.Path.{_≡_, sym, ap, _∙_}
-use mathlib.Core.List.{List, [], _∷_, _++_}
-use Prim.Native.Nat.{ℕ, _+_, _*_, _-_, _≤_}
+use mathlib.Core.List.{List, [], _∷_}
+use Prim.Native.Nat.{ℕ, _+_, _-_, _≤_}
 use native.Mathlib.Omega.{arith}
 use denote.Ref.{now}
-use lib.ListN.{length, take, drop, length-append, length-drop}
+use lib.ListN.{length, drop, length-append, length-drop}
 use borrow.Rule.Slice.PartMut.{same-len-mid}
-use Rattle.papers.specs.Encoding.{encodeNumbers, encodeField, encodeRun}
+use Rattle.papers.specs.Encoding.{encodeNumbers, encodeField}
 use Rattle.papers.proofs.NumbersWalked.{to-end}
 use Rattle.dual.specs.Bytes.{filled}
 use Rattle.dual.proofs.FilledLaws.{put-end}

@@ -21,9 +21,6 @@ returns-3 : tie.Need-returns-3
 unfolding stepBriefly
 returns-3 c = rw (ne-eqb _ 0x61 (c .before .before .if1 .left), ne-eqb _ 0x66 (c .before .if2 .left), eq-eqb _ 0x2D (c .if3 .taken))
 
-mul-opened : tie.Need-mul-opened
-mul-opened c = search needs
-
 opened-requires : tie.Need-opened-requires
 opened-requires c κs = search needs
 
@@ -51,7 +48,6 @@ begun-spec =
     denial-requires
     returns-2
     returns-3
-    mul-opened
     opened-requires
     returns-4
     returns-5)

@@ -6,12 +6,6 @@ use borrow.Author.Needs.{needs}
 use Rattle.text.proofs.line.headed.Statement.{statement}
 use Rattle.text.proofs.line.headed.Tie as tie
 
-mul-opened : tie.Need-mul-opened
-mul-opened c = search needs
-
-add-opened : tie.Need-add-opened
-add-opened c = search needs
-
 opened-requires : tie.Need-opened-requires
 opened-requires c κs = search needs
 
@@ -24,4 +18,4 @@ unfolding stepBriefly
 returns-2 c = rw (ne-eqb _ 0x70 (c .if1 .left))
 
 pub headed-spec : {M : Type 1} → statement M
-headed-spec = tie.close (tie.spec mul-opened add-opened opened-requires returns returns-2)
+headed-spec = tie.close (tie.spec opened-requires returns returns-2)
