@@ -59,12 +59,6 @@ padded-taken zero (n ∷ ns) h = absurd (omega arith)
 padded-taken (suc room) [] h = refl
 padded-taken (suc room) (n ∷ ns) h = ap (λ (l : List ℕ). n ∷ l) (padded-taken room ns (omega arith))
 
-pub padded-length : (room : ℕ) (ns : List ℕ) → length (padded room ns) ≡ room
-unfolding padded
-padded-length zero ns = refl
-padded-length (suc room) [] = ap suc (padded-length room [])
-padded-length (suc room) (n ∷ ns) = ap suc (padded-length room ns)
-
 -- ---- one line
 
 line-own : (tag : ℕ) (line : Line) → tagOf line ≡ tag → lineBytes tag line ≡ encodeField tag (encodeNumbers (numbersOf line))

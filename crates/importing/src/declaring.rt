@@ -2,13 +2,13 @@
 ghost use mathlib.Core.Path.{_≡_};
 ghost use mathlib.Core.Bool.{false, true, cond};
 ghost use Prim.Native.Nat.{_-_, _<_, _≤_};
-ghost use lib.ListN.{getD, set};
+ghost use lib.ListN.{length, getD, set};
 ghost use Rattle.importing.specs.Passes.{Typed, newIn, DeclareTells, flaggedFrom, listedWith, listOf};
+use arrays::put;
 use text::TextRefusal;
 use text::line::Brief;
 use text::line::LineRead;
 use text::line::read_line;
-use text::numbers::with_number;
 
 // Whether each atom is declared; or the refusal, whose number is 0 where there is none.
 pub struct Declared {
@@ -98,18 +98,16 @@ pub struct Abducibles {
 
 // With one more, if it is flagged.
 fn listed(list: Abducibles, atom: usize, flag: bool) -> Abducibles
-    requires { ⌜ (list .count < 65536) × (atom < 65536) ⌝ }
+    requires { ⌜ (list .count < 65536) × ((atom < 65536) × (length (list .numbers) ≡ 17)) ⌝ }
     ensures { λ r. ⌜ r ≡ listedWith list atom flag ⌝ }
 {
     if !flag {
         return list;
     }
-    let held = list.numbers;
-    let numbers = with_number(held, list.count, atom);
-    Abducibles {
-        count: list.count + 1,
-        numbers,
-    }
+    let mut numbers = list.numbers;
+    put(&mut numbers, list.count, atom as u16);
+    let count = list.count + 1;
+    Abducibles { count, numbers }
 }
 
 // The flagged atoms below a count.

@@ -25,6 +25,12 @@ padded-more zero (n ∷ ns) l = refl
 padded-more (suc room) [] l = refl
 padded-more (suc room) (n ∷ ns) l = ap (λ (x : List ℕ). n ∷ x) (padded-more room ns l)
 
+pub padded-length : (room : ℕ) (ns : List ℕ) → length (padded room ns) ≡ room
+unfolding padded
+padded-length zero ns = refl
+padded-length (suc room) [] = ap suc (padded-length room [])
+padded-length (suc room) (n ∷ ns) = ap suc (padded-length room ns)
+
 -- Past the room nothing is written.
 padded-past : (room : ℕ) (ns : List ℕ) (i l : ℕ) → room ≤ i → set (padded room ns) i l ≡ padded room ns
 unfolding padded

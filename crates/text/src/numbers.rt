@@ -1,26 +1,14 @@
 // The numbers of a line in its field, which a second reading of its tokens finds.
 ghost use mathlib.Core.Path.{_≡_};
 ghost use Prim.Native.Nat.{_≤_, _<_};
-ghost use lib.ListN.{length, set};
+ghost use lib.ListN.{length};
 ghost use Rattle.text.specs.LineNumbers.{placeSaid, numberSaid, NumbersTell};
 use crate::Scanned;
 use crate::line::Move;
 use crate::line::Stage;
 use crate::line::step;
 use crate::token::next_token;
-
-// The numbers with one at a place, if the place is one of theirs.
-pub fn with_number(numbers: [u16; 17], at: usize, number: usize) -> [u16; 17]
-    requires { ⌜ number < 65536 ⌝ }
-    ensures { λ r. ⌜ r ≡ set numbers at number ⌝ }
-{
-    if 17 <= at {
-        return numbers;
-    }
-    let mut written = numbers;
-    written[at] = number as u16;
-    written
-}
+use arrays::put;
 
 // Where a token's number stands among the line's; 17 where it has none.
 fn place_said(stage: Stage, kind: u8) -> usize
@@ -87,8 +75,7 @@ pub fn numbers_in(text: &[u8], from: usize) -> [u16; 17]
         };
         let place = place_said(stage, kind);
         let number = number_said(stage, value);
-        let more = with_number(numbers, place, number);
-        numbers = more;
+        put(&mut numbers, place, number as u16);
         stage = later;
         at = end;
     }

@@ -3,7 +3,9 @@
 use mathlib.Core.Path.{_≡_, ap, _∙_}
 use Prim.Native.Nat.{ℕ, _-_, _≤_}
 use native.Mathlib.Omega.{arith}
+use lib.ListN.{length}
 use Rattle.text.specs.LineNumbers.{padded}
+use Rattle.text.proofs.Gathering.{padded-length}
 use Rattle.importing.specs.declared.declaring.Abducibles.{Abducibles}
 use Rattle.importing.specs.Passes.{flaggedFrom, listOf}
 use Rattle.importing.proofs.RisingLaws.{listed-start, listed-more, flagged-few}
@@ -30,7 +32,8 @@ listed-requires c κs =
     let s = c .before .before .before in
     let count = ap (λ (l : Abducibles). l .count) (at .inv .1) in
     let few = flagged-few (s .args .flags) 0 (at .atom) in
-    (omega arith, omega arith)
+    let all = ap (λ (l : Abducibles). length (l .numbers)) (at .inv .1) ∙ padded-length 17 (flaggedFrom (s .args .flags) 0 (at .atom)) in
+    (omega arith, (omega arith, all))
 
 add-atom : tie.Need-add-atom Inv-loop μ-loop
 add-atom c = search needs

@@ -14,7 +14,8 @@ use Rattle.dual.proofs.FilledLaws.{put-end}
 use Rattle.papers.specs.Encoding.{encodeFile}
 use Rattle.importing.specs.Passes.{typed, fromAtoms}
 use Rattle.importing.specs.declared.declaring.Abducibles.{Abducibles}
-use Rattle.importing.proofs.RunWriting.{filled-then, padded-length}
+use Rattle.importing.proofs.RunWriting.{filled-then}
+use Rattle.text.proofs.Gathering.{padded-length}
 use Rattle.importing.proofs.ImportLaws.{few-atoms, sized, few-abducibles, as-fields}
 use borrow.Author.Needs.{needs}
 use Rattle.importing.proofs.writing.write_file.Statement.{statement}

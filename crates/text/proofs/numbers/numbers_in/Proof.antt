@@ -1,6 +1,6 @@
 -- `text::numbers::numbers_in` meets its contract. The loop's invariant: the numbers of what was read of the line are gathered.
 -- Assumes nothing.
-use mathlib.Core.Path.{refl}
+use mathlib.Core.Path.{refl, sym, ap, _∙_}
 use Prim.Native.Nat.{_-_}
 use native.Mathlib.Omega.{arith}
 use borrow.Author.Needs.{needs}
@@ -8,6 +8,7 @@ use denote.Ref.{now}
 use lib.ListN.{length}
 use Rattle.text.specs.LineNumbers.{padded}
 use Rattle.text.proofs.LineLaws.{token-value}
+use Rattle.text.proofs.Gathering.{padded-length, numbersIn}
 use Rattle.text.proofs.GatheredLines.{Gathered, gathered-start, gathered-none, gathered-less, gathered-on, gathered-done}
 use Rattle.text.proofs.numbers.numbers_in.Statement.{statement}
 use Rattle.text.proofs.numbers.numbers_in.Tie as tie
@@ -81,14 +82,22 @@ number-said-requires c κs =
     let at = here seen .loop in
     token-value (now (start seen .args .text)) (at .at) (at .inv .within) (seen .next-token .ensures) (token done .scanned .given .1)
 
-with-number-requires : tie.Need-with-number-requires Inv-loop μ-loop
-with-number-requires c κs = c .number-said .ensures .1
+slice-aggregate-put : tie.Need-slice-aggregate-put Inv-loop μ-loop
+slice-aggregate-put c =
+    let g = here (read (stepped (c .before .before))) .loop .inv in
+    sym (ap length (g .held) ∙ padded-length 17 (numbersIn (g .state)))
+
+cast-put : tie.Need-cast-put Inv-loop μ-loop
+cast-put c = search needs
+
+put-requires : tie.Need-put-requires Inv-loop μ-loop
+put-requires c κs = search needs
 
 -- ---- once its number is noted
 
-module _ (c : tie.After-with-number Inv-loop μ-loop) where
+module _ (c : tie.After-put Inv-loop μ-loop) where
   abbrev number : tie.After-number-said Inv-loop μ-loop
-  number = c .before
+  number = c .before .before
 
   abbrev place : tie.After-place-said Inv-loop μ-loop
   place = number .before
@@ -98,13 +107,14 @@ module _ (c : tie.After-with-number Inv-loop μ-loop) where
 
 loop-again : tie.Need-loop-again Inv-loop μ-loop
 loop-again c =
-    let done = step c in
+    let put = c .before in
+    let done = step put in
     gathered-on (here (read done) .loop .inv) (read done .next-token .ensures) (token done .scanned .given .1) (done .step .ensures)
-    (moved (place c) .moved .given .1) (place c .place-said .ensures) (number c .number-said .ensures .0) (c .with-number .ensures)
+    (moved (place put) .moved .given .1) (place put .place-said .ensures) (number put .number-said .ensures .0) (put .put .ensures)
 
 loop-less : tie.Need-loop-less Inv-loop μ-loop
 loop-less c =
-    let done = step c in
+    let done = step (c .before) in
     let less = gathered-less (here (read done) .loop .inv) (read done .next-token .ensures) (token done .scanned .given .1) (done .step .ensures) in
     omega (arith, less, loop-again c .within)
 
@@ -123,6 +133,8 @@ numbers-in-spec =
     returns-2
     place-said-requires
     number-said-requires
-    with-number-requires
+    slice-aggregate-put
+    cast-put
+    put-requires
     loop-less
     loop-again)
