@@ -24,7 +24,7 @@ use Rattle.text.proofs.Printed.{Printable, abducible-fits}
 use Rattle.text.proofs.Fitting.{all-split, text-fits}
 use Rattle.text.proofs.Passes.{newAmong, import-checks, abducibles-counted}
 use Rattle.importing.specs.Passes.{linesIn, Typed, typed, declaredNames, newIn, Flagged}
-use Rattle.importing.proofs.LinesWalked.{LinesRead, lines-start, met, lines-on, lines-split, all-done}
+use Rattle.importing.proofs.LinesWalked.{its-append, LinesRead, lines-start, met, lines-on, lines-split, all-done}
 
 -- ---- one line
 
@@ -34,10 +34,6 @@ declared-append [] ys = refl
 declared-append (abducible start a ∷ xs) ys = ap (λ (l : List (Placed ℕ)). placed start a ∷ l) (declared-append xs ys)
 declared-append (rule start head body ∷ xs) ys = declared-append xs ys
 declared-append (integrity start body ∷ xs) ys = declared-append xs ys
-
-names-append : (xs ys : List (Placed ℕ)) → map its (xs ++ ys) ≡ map its xs ++ map its ys
-names-append [] ys = refl
-names-append (x ∷ xs) ys = ap (λ (l : List ℕ). x .it ∷ l) (names-append xs ys)
 
 -- What a line declares: its atom, or nothing.
 declares : (line : Line) → declaredIn (line ∷ []) ≡ cond (eqb (tagOf line) 0x03) (placed (startOf line) (atomOf line) ∷ []) []
@@ -149,7 +145,7 @@ module _ (seen : List ℕ) (line : Line) where
       ≡ map its (declaredIn done) ++ (map its (declaredIn (line ∷ [])) ++ later)
   names-more done later =
       ap (λ (l : List (Placed ℕ)). map its l ++ later) (declared-append done (line ∷ []))
-      ∙ ap (λ (l : List ℕ). l ++ later) (names-append (declaredIn done) (declaredIn (line ∷ [])))
+      ∙ ap (λ (l : List ℕ). l ++ later) (its-append (declaredIn done) (declaredIn (line ∷ [])))
       ∙ append-assoc (map its (declaredIn done)) (map its (declaredIn (line ∷ []))) later
 
   places-more : (done : List Line) (later : List (Placed ℕ)) → declaredIn (done ++ (line ∷ [])) ++ later ≡ declaredIn done ++ (declaredIn (line ∷ []) ++ later)
@@ -202,7 +198,7 @@ grow g line after w ds d more left now-seen l f few s c p = record {
   same = λ x.
       s x
       ∙ ap (λ (n : List ℕ). isAmong n x)
-      (ap (λ (n : List (Placed ℕ)). map its (declaredIn (g .done)) ++ map its n) (sym d) ∙ sym (names-append (declaredIn (g .done)) (declaredIn (line ∷ [])))
+      (ap (λ (n : List (Placed ℕ)). map its (declaredIn (g .done)) ++ map its n) (sym d) ∙ sym (its-append (declaredIn (g .done)) (declaredIn (line ∷ [])))
       ∙ ap (map its) (sym (declared-append (g .done) (line ∷ []))));
   counts = λ later.
       ap (newAmong []) (names-more (g .seen) line (g .done) later ∙ ap (λ (n : List (Placed ℕ)). map its (declaredIn (g .done)) ++ (map its n ++ later)) d)
@@ -307,7 +303,7 @@ module _ (text : List ℕ) (was : Typed text) {flags : List Bool} {room at : ℕ
             let split : declaredIn (linesIn text) ≡ declaredIn (g .done) ++ (here ∷ declaredIn (s .0)) =
             ap declaredIn (s .1) ∙ declared-append (g .done ++ (line ∷ [])) (s .0) ∙ places-more (g .seen) line (g .done) (declaredIn (s .0))
             ∙ ap (λ (l : List (Placed ℕ)). declaredIn (g .done) ++ (l ++ declaredIn (s .0))) declared-here in
-            let names = ap (map its) split ∙ names-append (declaredIn (g .done)) (here ∷ declaredIn (s .0)) in
+            let names = ap (map its) split ∙ its-append (declaredIn (g .done)) (here ∷ declaredIn (s .0)) in
             let counted = abducibles-counted (linesIn text) ∙ ap (newAmong []) names ∙ g .counts (atomOf line ∷ map its (declaredIn (s .0))) in
             let new = new-here (g .seen) (atomOf line) (map its (declaredIn (s .0))) (news .1) in
             let many : 16 < length (p .abducibles) = omega arith in

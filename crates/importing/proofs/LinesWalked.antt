@@ -1,7 +1,7 @@
 -- The lines of a text, one by one, as every pass meets them.
 -- Assumes nothing.
 use mathlib.Core.Path.{_≡_, refl, sym, ap, _∙_}
-use mathlib.Core.List.{List, [], _∷_, _++_, append-assoc, append-nil}
+use mathlib.Core.List.{List, [], _∷_, _++_, map, append-assoc, append-nil}
 use mathlib.Core.Logic.{⊎-elim}
 use Prim.Native.Nat.{ℕ, _≤_, _<_}
 use native.Mathlib.Omega.{arith}
@@ -13,10 +13,15 @@ use Rattle.text.specs.declared.line.Brief.{Brief}
 use Rattle.text.specs.declared.line.LineRead.{LineRead}
 use Rattle.text.specs.declared.line.LineRead.the-variants as read
 use Rattle.text.specs.Lines.{Reading, accepted, refused, andThen, Line, fresh, linesOf}
+use Rattle.text.specs.Typed.{Placed, its}
 use Rattle.text.specs.LineAnswers.{linesAt, LineTells, LineEnds}
 use Rattle.text.proofs.line.LineRead.{the-type}
 use Rattle.text.proofs.Readings.{refused-not, through}
 use Rattle.importing.specs.Passes.{linesIn, Typed}
+
+pub its-append : {A : Type 0} (xs ys : List (Placed A)) → map its (xs ++ ys) ≡ map its xs ++ map its ys
+its-append [] ys = refl
+its-append (x ∷ xs) ys = ap (λ more. x .it ∷ more) (its-append xs ys)
 
 -- The text's lines are those done and those from here on.
 pub record LinesRead (text : List ℕ) (done : List Line) (at : ℕ) : Type 0 where

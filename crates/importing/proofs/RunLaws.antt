@@ -32,7 +32,7 @@ use Rattle.importing.specs.declared.checking.RunChecked.{RunChecked}
 use Rattle.importing.specs.declared.checking.RunChecked.the-variants.{Length, Refused}
 use Rattle.importing.specs.declared.checking.RunsChecked.the-variants as both
 use Rattle.importing.specs.Passes.{linesIn, Typed, typed, Flagged, fieldsIn, fixedIn, lineNumber, roomAfter, sizeAfter, RunTells, RunsTell}
-use Rattle.importing.proofs.LinesWalked.{LinesRead, lines-start, met, lines-on, lines-split, all-done}
+use Rattle.importing.proofs.LinesWalked.{its-append, LinesRead, lines-start, met, lines-on, lines-split, all-done}
 use Rattle.importing.proofs.DeclareLaws.{atom-is, start-is, tag-is}
 
 -- ---- one line
@@ -98,13 +98,6 @@ few-most n = elim (decLt n 18) [
   | no h ↦ rw (le-ltb n 18 (omega arith)) (omega arith)
 ]
 
-pub few-same : (n : ℕ) → few n ≤ 17 → n ≡ few n
-unfolding few
-few-same n h = elim (decLt n 18) [
-  | yes k ↦ rw (lt-ltb n 18 k)
-  | no k ↦ absurd (let z : 18 ≤ 17 = rw (le-ltb n 18 (omega arith)) at h in omega arith)
-]
-
 -- Of a line's content only the head can fail, by 8.
 content-fault : (tag n : ℕ) (abducibles : List ℕ) (line : Line) → 4 ≤ tag → tagOf line ≡ tag → All (_< n) (namedIn (line ∷ []))
     → bodyFault tag n abducibles (numbersOf line) ≡ check (not (eqb tag 0x04 && isAmong abducibles (atomOf line))) 8 0
@@ -142,10 +135,6 @@ lengths-append : (xs ys : List (List ℕ)) → fieldsLength (xs ++ ys) ≡ field
 unfolding fieldsLength
 lengths-append [] ys = omega arith
 lengths-append (x ∷ xs) ys = let ih = lengths-append xs ys in omega arith
-
-pub its-append : (xs ys : List (Placed (List ℕ))) → map its (xs ++ ys) ≡ map its xs ++ map its ys
-its-append [] ys = refl
-its-append (x ∷ xs) ys = ap (λ (l : List (List ℕ)). x .it ∷ l) (its-append xs ys)
 
 -- The contents of the lines of a tag, with one line more.
 pub contents-more : (tag : ℕ) (done : List Line) (line : Line) {fs : List (Placed (List ℕ))} → fieldsIn tag (line ∷ []) ≡ fs

@@ -23,9 +23,9 @@ use Rattle.text.specs.LineNumbers.{padded, NumbersTell}
 use Rattle.text.proofs.Readings.{through}
 use Rattle.text.proofs.Fitting.{all-split}
 use Rattle.importing.specs.Passes.{Typed, fieldsIn, contentsIn, lineBytes, LineFits, LineFills, Within, RunFits}
-use Rattle.importing.proofs.LinesWalked.{LinesRead, lines-start, met, lines-on, lines-split, all-done}
+use Rattle.importing.proofs.LinesWalked.{its-append, LinesRead, lines-start, met, lines-on, lines-split, all-done}
 use Rattle.importing.proofs.DeclareLaws.{tag-is}
-use Rattle.importing.proofs.RunLaws.{fields-append, field-own, contents-more, its-append, fewer}
+use Rattle.importing.proofs.RunLaws.{fields-append, field-own, contents-more, fewer}
 
 -- ---- bytes
 

@@ -50,10 +50,6 @@ padded-few ns l = elim (decLt (length ns) 18) [
       (padded-more 17 ns l ∙ padded-past 17 ns (length ns) l (omega arith) ∙ sym (padded-past 17 ns 18 l (omega arith)))
 ]
 
-pub padded-none : padded 17 [] ≡ 0 ∷ 0 ∷ 0 ∷ 0 ∷ 0 ∷ 0 ∷ 0 ∷ 0 ∷ 0 ∷ 0 ∷ 0 ∷ 0 ∷ 0 ∷ 0 ∷ 0 ∷ 0 ∷ 0 ∷ []
-unfolding padded
-padded-none = refl
-
 -- ---- what a state has of them
 
 abbrev pub numbersIn : State → List ℕ

@@ -25,7 +25,9 @@ add-count c = search needs
 
 returns-2 : tie.Need-returns-2
 unfolding listedWith
-returns-2 c = let tested = c .before .before .before .before .before in rw (not-false (tested .before .args .flag) (tested .if1 .left), c .before .before .put .ensures)
+returns-2 c =
+    let tested = c .before .before .before .before .before in
+    rw (not-false (tested .before .args .flag) (tested .if1 .left), c .before .before .put .ensures)
 
 pub listed-spec : {M : Type 1} → statement M
 listed-spec =
