@@ -3,8 +3,8 @@
  *
  * Document 01 says what a file, a sheet, a dual, a refusal and its place, a
  * scenario, a model, a record and a list are; of document 02, Card 1 says what
- * held faults are and Card 4 what a text is. This header says only how they
- * cross the boundary.
+ * held faults are, Card 4 what a text is and Card 5 what FFFF is in a body of
+ * the file. This header says only how they cross the boundary.
  *
  * Common to all functions:
  *

@@ -8,10 +8,12 @@ use native.Mathlib.Numerals.{add-one}
 use lib.ListN.{length, getD, drop, drop-of-length-le}
 use lib.Seq.{drop-cons}
 use lib.Bits.{bitOr}
+use Rattle.literals.specs.declared.bodies.BodyLiteral.{BodyLiteral}
+use Rattle.literals.specs.BodyLiterals.{bodyLiteral, Below}
 use Rattle.papers.specs.Tests.{_or_}
 use Rattle.model.specs.Falsity.{someHolds}
 use Rattle.lanes.specs.Lanes.{inLane, lane}
-use Rattle.lanes.specs.Words.{wordOf, Below, Literals}
+use Rattle.lanes.specs.Words.{wordOf, Literals}
 use Rattle.closing.specs.FalseWords.{SomeWord}
 use Rattle.papers.proofs.TestLaws.{or-false, false-or, or-assoc}
 use Rattle.lanes.proofs.LaneLaws.{lane-or, lane-none}
@@ -35,12 +37,12 @@ module _ (clause truth falses : List ℕ) where
       at = λ n l a. sym (or-false (inLane l word)) ∙ (rw (drop-of-length-le clause h) at (s .at n l a));
     }
 
-    module _ (here : i < length clause) {x : ℕ} (is : x ≡ getD clause i 0) where
-      one : drop i clause ≡ x ∷ drop (i + 1) clause
-      one = drop-cons clause i 0 here ∙ rw (is, add-one)
+    module _ (here : i < length clause) {x : BodyLiteral} (is : x ≡ bodyLiteral (getD clause i 0)) where
+      one : drop i clause ≡ getD clause i 0 ∷ drop (i + 1) clause
+      one = drop-cons clause i 0 here ∙ rw add-one
 
       parted : (n : ℕ) → Literals n clause → Below n x × Literals n (drop (i + 1) clause)
-      parted n a = let b = rw one at (s .later n a) in (literals-first b, literals-more b)
+      parted n a = let b = rw one at (s .later n a) in (rw is (literals-first b), literals-more b)
 
       pub some-to-below : Literals 513 clause → Below 513 x
       some-to-below a = parted 513 a .0
@@ -54,5 +56,5 @@ module _ (clause truth falses : List ℕ) where
             ap (λ (b : Bool). b or rest) (lane-or l word (wordOf x truth falses))
             ∙ or-assoc (inLane l word) (inLane l (wordOf x truth falses)) rest
             ∙ ap (λ (b : Bool). inLane l word or (b or rest)) (word-holds n x truth falses (parted n a .0) l)
-            ∙ (rw one at (s .at n l a));
+            ∙ (rw (one, ← is) at (s .at n l a));
       }

@@ -128,22 +128,22 @@ module _ {r : Rule} {negated before after : List ℕ} {changed : Bool} (so : Rai
 
     -- What is in, in each lane: what was, and the head where the body holds.
     module _ (n : ℕ) (literals : Literals n (r .body)) (l : ℕ) (below : l < 64) where
-      word-in : inLane l (so .word) ≡ (not (inLane l (getD before (r .head) 0)) and bodyHolds (lane n l before) (lane n l negated) (r .body))
+      word-in : inLane l (so .word) ≡ (not (inLane l (getD before (r .head) 0)) and bodyHolds false (lane n l before) (lane n l negated) (r .body))
       word-in =
           so .holds .in-lane n literals l
-          ∙ ap (λ (b : Bool). b and bodyHolds (lane n l before) (lane n l negated) (r .body)) (so .others .at l below)
+          ∙ ap (λ (b : Bool). b and bodyHolds false (lane n l before) (lane n l negated) (r .body)) (so .others .at l below)
 
       pub raised-in : (o : ℕ)
-          → inLane l (getD after o 0) ≡ (inLane l (getD before o 0) or (eqb (r .head) o and bodyHolds (lane n l before) (lane n l negated) (r .body)))
+          → inLane l (getD after o 0) ≡ (inLane l (getD before o 0) or (eqb (r .head) o and bodyHolds false (lane n l before) (lane n l negated) (r .body)))
       raised-in o = elim (ℕ-discrete o (r .head)) [
         | yes e ↦
-            let body = bodyHolds (lane n l before) (lane n l negated) (r .body) in
+            let body = bodyHolds false (lane n l before) (lane n l negated) (r .body) in
             rw (e, raised-head, eq-eqb (r .head) (r .head) refl, true-and body)
             (lane-or l (getD before (r .head) 0) (so .word)
             ∙ ap (λ (b : Bool). inLane l (getD before (r .head) 0) or b) word-in
             ∙ or-absorb (inLane l (getD before (r .head) 0)) body)
         | no ne ↦
-            rw (raised-other o ne, ne-eqb (r .head) o (λ e. ne (sym e)), false-and (bodyHolds (lane n l before) (lane n l negated) (r .body)))
+            rw (raised-other o ne, ne-eqb (r .head) o (λ e. ne (sym e)), false-and (bodyHolds false (lane n l before) (lane n l negated) (r .body)))
             (sym (or-false (inLane l (getD before o 0))))
       ]
 
@@ -151,7 +151,7 @@ module _ {r : Rule} {negated before after : List ℕ} {changed : Bool} (so : Rai
       raised-grows o t = rw (raised-in o) (either-left _ _ t)
 
       -- Where nothing changed the rule holds.
-      pub raised-ruled : changed ≡ false → T (bodyHolds (lane n l before) (lane n l negated) (r .body)) → T (inLane l (getD before (r .head) 0))
+      pub raised-ruled : changed ≡ false → T (bodyHolds false (lane n l before) (lane n l negated) (r .body)) → T (inLane l (getD before (r .head) 0))
       raised-ruled e t =
           let s : getD after (r .head) 0 ≡ getD before (r .head) 0 = ap (λ (w : List ℕ). getD w (r .head) 0) (raised-same e) in
           rw (sym s, raised-in (r .head)) (either-right _ _ (both _ _ (eqb-refl (r .head)) t))
@@ -170,7 +170,7 @@ module _ {rules : List Rule} {negated before : List ℕ} {count : ℕ} {words af
 
 -- The rules bring a set nothing more.
 pub record Ruled (n : ℕ) (rules : List Rule) (negated s : Set) : Type 0 where
-  pub heads : (o : ℕ) → o < n → T (supported s negated rules o) → T (has s o)
+  pub heads : (o : ℕ) → o < n → T (supported false s negated rules o) → T (has s o)
 
 -- What the first rules have done.
 pub record Done (n : ℕ) (rules : List Rule) (negated before : List ℕ) (count : ℕ) (after : List ℕ) (changed : Bool) : Type 0 where
@@ -183,7 +183,7 @@ pub record Done (n : ℕ) (rules : List Rule) (negated before : List ℕ) (count
   -- Where nothing changed, the sets are as they were, and the rules hold in them.
   pub same : changed ≡ false → after ≡ before
   pub ruled : changed ≡ false → (k : ℕ) → k < count → (l : ℕ) → l < 64
-      → T (bodyHolds (lane n l before) (lane n l negated) ((getD rules k noRule) .body)) → T (inLane l (getD before ((getD rules k noRule) .head) 0))
+      → T (bodyHolds false (lane n l before) (lane n l negated) ((getD rules k noRule) .body)) → T (inLane l (getD before ((getD rules k noRule) .head) 0))
   -- Where something changed, the sum has grown.
   pub more : changed ≡ true → total before < total after
 
@@ -222,11 +222,11 @@ module _ (n : ℕ) (rules : List Rule) (negated before : List ℕ) (j : Judged n
           (λ x. b .at o (lane-of n l o words (k .0) x))
           (λ x.
           u .heads o (k .0)
-          (supported-is s (lane n l negated) rules o count
+          (supported-is false s (lane n l negated) rules o count
           (record {
             below = here;
             heads = eqb→eq ((getD rules count noRule) .head) o (left _ _ x);
-            body = body-mono b sub-refl ((getD rules count noRule) .body) (right _ _ x);
+            body = body-mono false false (λ u. u) b sub-refl ((getD rules count noRule) .body) (right _ _ x);
           })))
           (either _ _ (rw (raised-in one within n (j .body count here) l h o) at (k .1)));
     }
@@ -272,7 +272,7 @@ pub record Going (n : ℕ) (rules : List Rule) (negated before words : List ℕ)
   pub grows : (l : ℕ) → l < 64 → (o : ℕ) → T (inLane l (getD before o 0)) → T (inLane l (getD words o 0))
   pub inside : (l : ℕ) → l < 64 → (s : Set) → Ruled n rules (lane n l negated) s → Sub (lane n l before) s → Sub (lane n l words) s
   pub ruled : going ≡ false → (k : ℕ) → k < length rules → (l : ℕ) → l < 64
-      → T (bodyHolds (lane n l words) (lane n l negated) ((getD rules k noRule) .body)) → T (inLane l (getD words ((getD rules k noRule) .head) 0))
+      → T (bodyHolds false (lane n l words) (lane n l negated) ((getD rules k noRule) .body)) → T (inLane l (getD words ((getD rules k noRule) .head) 0))
 
 -- It falls with each pass: the sum has grown, or the passes end.
 abbrev pub leftOver : List ℕ → Bool → ℕ
@@ -311,15 +311,15 @@ module _ (n : ℕ) (rules : List Rule) (negated before : List ℕ) (j : Judged n
       by false c = let d = passed in omega (arith, ap total (d .same c))
 
   going-ends : {words : List ℕ} → Going n rules negated before words false → (l : ℕ) → l < 64
-      → lane n l words ≡ least n rules (record { seed = lane n l before; allowed = full n; negated = lane n l negated })
+      → lane n l words ≡ least n rules (record { seed = lane n l before; allowed = full n; negated = lane n l negated; undefined = false })
   going-ends {words} so l h =
-      let g : Reduct = record { seed = lane n l before; allowed = full n; negated = lane n l negated } in
+      let g : Reduct = record { seed = lane n l before; allowed = full n; negated = lane n l negated; undefined = false } in
       let top = least-closed n rules g in
       least-is n rules g (lane n l words) (sized n l words)
       (record {
         seeds = λ o m a t. lane-of n l o words m (so .grows l h o (lane-in n l o before t .1));
         heads = λ o m a t.
-            let s = supported-tells (lane n l words) (lane n l negated) rules o t in
+            let s = supported-tells false (lane n l words) (lane n l negated) rules o t in
             lane-of n l o words m
             (subst (λ (q : ℕ). T (inLane l (getD words q 0))) (s .1 .heads) (so .ruled refl (s .0) (s .1 .below) l h (s .1 .body)));
       })

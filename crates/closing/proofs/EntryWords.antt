@@ -7,10 +7,11 @@ use Prim.Native.Nat.{ℕ, _+_, _-_, _*_, _/_, _≤_, _<_}
 use native.Mathlib.Omega.{arith}
 use lib.Bits.{bitAnd}
 use lib.ListN.{length, getD, take, drop, length-append}
-use Rattle.literals.specs.Numbering.{defaultConjugate, judged}
-use Rattle.literals.proofs.NumberingLaws.{default-same-objective}
+use Rattle.literals.specs.Numbering.{judged}
+use Rattle.literals.specs.BodyLiterals.{bodyLiteral, conjugateNumber, Below}
+use Rattle.literals.proofs.BodyLaws.{conjugate-read, listed-below, conjugate-below, below-named}
 use Rattle.papers.specs.Program.{Program, allRules}
-use Rattle.papers.specs.Valid.{Valid, All, none, each}
+use Rattle.papers.specs.Valid.{Valid, All, none, each, InBody}
 use Rattle.papers.proofs.Lists.{all-map, first-of}
 use Rattle.papers.proofs.RuleLaws.{rule-fitting}
 use Rattle.dual.specs.Table.{foldsOf, hasEntry, dual}
@@ -23,7 +24,7 @@ use Rattle.model.specs.Falsity.{someHolds, foldsHold, entryHolds}
 use Rattle.papers.proofs.TestLaws.{true-and, and-true, false-and, and-assoc}
 use Rattle.model.proofs.Fields.{entry-dual, listed-dual}
 use Rattle.lanes.specs.Lanes.{inLane, lane}
-use Rattle.lanes.specs.Words.{Below, Literals}
+use Rattle.lanes.specs.Words.{Literals}
 use Rattle.lanes.proofs.LaneLaws.{lane-and, lane-none}
 use Rattle.closing.specs.FalseWords.{EntryStands, SomeWord, EntryWord}
 
@@ -54,13 +55,15 @@ module _ (p : Program) (trues set : Set) (o : ℕ) (within : o < judged (p .atom
 clauses-below : (p : Program) → Valid p → (o : ℕ) → All (Literals (judged (p .atoms))) (clausesOf p o)
 unfolding clausesOf
 clauses-below p v o = go (hasEntry p o) where
-  below : (x : ℕ) → x < 4 * p .atoms → Below (judged (p .atoms)) (defaultConjugate x)
-  below x l = let e = default-same-objective x in omega arith
+  below : (x : ℕ) → InBody (p .atoms) x → Below (judged (p .atoms)) (bodyLiteral (conjugateNumber x))
+  below x l =
+      let h = listed-below (p .atoms) x l in
+      rw (conjugate-read x (below-named (judged (p .atoms)) x (omega (arith, v .fewAtoms)) h)) (conjugate-below (judged (p .atoms)) (bodyLiteral x) h)
 
   go : (b : Bool) → All (Literals (judged (p .atoms))) (cond b (map (clauseOf p) (foldsOf p o)) ([] ∷ []))
   go true =
       all-map (clauseOf p)
-      (λ k f. record { below = all-map defaultConjugate below (rule-fitting p v k (f .below) .body .listed) }) (folds-of-tell p o)
+      (λ k f. record { below = all-map conjugateNumber below (rule-fitting p v k (f .below) .body .listed) }) (folds-of-tell p o)
   go false = each (record { below = none }) none
 
 -- ---- the loop

@@ -11,6 +11,8 @@ use lib.Dec.{T}
 use lib.ListN.{length, getD, take, drop, length-append, List·getD-append}
 use lib.Seq.{getD-append-add}
 use Rattle.literals.specs.Numbering.{objectiveNumber, defaultNegated, judged}
+use Rattle.literals.specs.BodyLiterals.{bodyLiteral}
+use Rattle.literals.proofs.BodyLaws.{body-cases}
 use Rattle.papers.specs.Program.{Program}
 use Rattle.dual.specs.Table.{dual}
 use Rattle.parts.specs.Parts.{placeOf, Asks, headAt, PartEnd, Apart}
@@ -50,13 +52,18 @@ module _ {set set′ : Set} where
   }
 
   module _ (trues : Set) where
-    literal-same : {l : ℕ} {more : List ℕ} → Agree (l ∷ more) set set′ → literalHolds trues set l ≡ literalHolds trues set′ l
+    literal-same : {l : ℕ} {more : List ℕ} → Agree (l ∷ more) set set′
+        → literalHolds false trues set (bodyLiteral l) ≡ literalHolds false trues set′ (bodyLiteral l)
     unfolding literalHolds
-    literal-same {l} {more} a = go (defaultNegated l) refl where
-      go : (b : Bool) → defaultNegated l ≡ b
-          → cond b (has set (objectiveNumber l)) (has trues (objectiveNumber l)) ≡ cond b (has set′ (objectiveNumber l)) (has trues (objectiveNumber l))
-      go true e = let q = eqb-true (l % 2) 1 e in a .at 0 (objectiveNumber l) (omega arith) (omega arith)
-      go false e = refl
+    literal-same {l} {more} =
+        body-cases (λ l b. Agree (l ∷ more) set set′ → literalHolds false trues set b ≡ literalHolds false trues set′ b)
+        (λ a. refl)
+        (λ l ne a. go l a (defaultNegated l) refl)
+        l where
+          go : (l : ℕ) → Agree (l ∷ more) set set′ → (b : Bool) → defaultNegated l ≡ b
+              → cond b (has set (objectiveNumber l)) (has trues (objectiveNumber l)) ≡ cond b (has set′ (objectiveNumber l)) (has trues (objectiveNumber l))
+          go l a true e = let q = eqb-true (l % 2) 1 e in a .at 0 (objectiveNumber l) (omega arith) (omega arith)
+          go l a false e = refl
 
     some-same : (clause : List ℕ) → Agree clause set set′ → someHolds trues set clause ≡ someHolds trues set′ clause
     unfolding someHolds

@@ -8,6 +8,7 @@ use native.Mathlib.Omega.{arith}
 use lib.Dec.{T}
 use lib.ListN.{length, getD, take, drop}
 use Rattle.literals.specs.Numbering.{judged}
+use Rattle.literals.proofs.BodyLaws.{listed-below}
 use Rattle.papers.specs.Program.{Rule, Program, noRule, allRules, ruleAt}
 use Rattle.papers.specs.Valid.{Valid}
 use Rattle.papers.proofs.Lists.{all-each}
@@ -36,7 +37,8 @@ same-test false true f g = absurd (g tt)
 same-test false false f g = refl
 
 least-by-support : (n : ℕ) (rules others : List Rule) (g : Reduct)
-    → ((s : Set) (o : ℕ) → supported s (g .negated) rules o ≡ supported s (g .negated) others o) → least n rules g ≡ least n others g
+    → ((s : Set) (o : ℕ) → supported (g .undefined) s (g .negated) rules o ≡ supported (g .undefined) s (g .negated) others o)
+    → least n rules g ≡ least n others g
 unfolding least step
 least-by-support n rules others g e = λ i. iterate n (λ s. setOf n (λ o. has (g .allowed) o and (has (g .seed) o or e s o i))) (empty n)
 
@@ -95,7 +97,7 @@ module _ (p : Program) (valid : Valid p) (rows visits : List ℕ) (s : Stand 0 (
       ∙ rule-stands (ruleAt p k) rows (getD (s .starts) k 0) (stands k h)
 
   judged-body : (k : ℕ) → k < length (allRules p) → Literals (judged (p .atoms)) ((ruleAt p k) .body)
-  judged-body k h = record { below = all-each (λ l b. omega arith) (rule-fitting p valid k h .body .listed) }
+  judged-body k h = record { below = all-each (listed-below (p .atoms)) (rule-fitting p valid k h .body .listed) }
 
   pub visited-judged : Judged (judged (p .atoms)) (rulesIn rows visits)
   visited-judged = record {
@@ -122,19 +124,20 @@ module _ (p : Program) (valid : Valid p) (rows visits : List ℕ) (s : Stand 0 (
   pub rules-parted : Parted 0 (length visits) rows visits
   rules-parted = rw (s .sized) (s .parted)
 
-  supported-same : (set negated : Set) (o : ℕ) → supported set negated (rulesIn rows visits) o ≡ supported set negated (allRules p) o
-  supported-same set negated o =
+  supported-same : (undefined : Bool) (set negated : Set) (o : ℕ)
+      → supported undefined set negated (rulesIn rows visits) o ≡ supported undefined set negated (allRules p) o
+  supported-same undefined set negated o =
       same-test _ _
       (λ t.
-      let f = supported-tells set negated (rulesIn rows visits) o t in
+      let f = supported-tells undefined set negated (rulesIn rows visits) o t in
       let w : f .0 < length visits = omega (arith, length-rules rows visits, f .1 .below) in
       let e = visited-rule (f .0) w in
-      supported-is set negated (allRules p) o (fold (f .0))
+      supported-is undefined set negated (allRules p) o (fold (f .0))
       (record { below = fold-below (f .0) w; heads = rw e at (f .1 .heads); body = rw e at (f .1 .body) }))
       (λ t.
-      let f = supported-tells set negated (allRules p) o t in
+      let f = supported-tells undefined set negated (allRules p) o t in
       let e = every-rule (f .0) (f .1 .below) in
-      supported-is set negated (rulesIn rows visits) o (visit (f .0))
+      supported-is undefined set negated (rulesIn rows visits) o (visit (f .0))
       (record {
         below = omega (arith, length-rules rows visits, visit-below (f .0) (f .1 .below));
         heads = rw e (f .1 .heads);
@@ -142,4 +145,4 @@ module _ (p : Program) (valid : Valid p) (rows visits : List ℕ) (s : Stand 0 (
       }))
 
   pub least-visited : (n : ℕ) (g : Reduct) → least n (rulesIn rows visits) g ≡ least n (allRules p) g
-  least-visited n g = least-by-support n (rulesIn rows visits) (allRules p) g (λ set o. supported-same set (g .negated) o)
+  least-visited n g = least-by-support n (rulesIn rows visits) (allRules p) g (λ set o. supported-same (g .undefined) set (g .negated) o)

@@ -46,10 +46,10 @@ none-closed rows visits begins =
 module _ {r : Rule} {negated before after : List ℕ} {changed : Bool} (begins : Laned before) (one : Raised r negated before after changed) where
   module _ (n : ℕ) (j : Judged n (r ∷ [])) where
     -- Where its head did not come in, nothing did: so its body does not hold.
-    raised-holds : (l : ℕ) → l < 64 → T (bodyHolds (lane n l after) (lane n l negated) (r .body)) → T (inLane l (getD after (r .head) 0))
+    raised-holds : (l : ℕ) → l < 64 → T (bodyHolds false (lane n l after) (lane n l negated) (r .body)) → T (inLane l (getD after (r .head) 0))
     raised-holds l h t = go (inLane l (getD after (r .head) 0)) refl where
       body : Bool
-      body = bodyHolds (lane n l before) (lane n l negated) (r .body)
+      body = bodyHolds false (lane n l before) (lane n l negated) (r .body)
 
       came : (o : ℕ) → inLane l (getD after o 0) ≡ (inLane l (getD before o 0) or (eqb (r .head) o and body))
       came = raised-in one (omega (arith, j .few, j .head 0 (omega arith), begins .many)) n (j .body 0 (omega arith)) l h
@@ -68,7 +68,7 @@ module _ {r : Rule} {negated before after : List ℕ} {changed : Bool} (begins :
                 (λ y. absurd (rw e at (head-in (right _ _ y))))
                 (either _ _ (rw (came o) at (k .1)));
           } in
-          rw e at (head-in (body-mono stays sub-refl (r .body) t))
+          rw e at (head-in (body-mono false false (λ u. u) stays sub-refl (r .body) t))
 
     raised-going : Going n (r ∷ []) negated before after false
     raised-going =
@@ -80,7 +80,7 @@ module _ {r : Rule} {negated before after : List ℕ} {changed : Bool} (begins :
           inside = d .inside;
           ruled = λ e. ruled-at;
         } where
-          ruled-at : (k : ℕ) → k < 1 → (l : ℕ) → l < 64 → T (bodyHolds (lane n l after) (lane n l negated) ((getD (r ∷ []) k noRule) .body))
+          ruled-at : (k : ℕ) → k < 1 → (l : ℕ) → l < 64 → T (bodyHolds false (lane n l after) (lane n l negated) ((getD (r ∷ []) k noRule) .body))
               → T (inLane l (getD after ((getD (r ∷ []) k noRule) .head) 0))
           ruled-at zero h l m t = raised-holds l m t
           ruled-at (suc k) h l m t = absurd (omega arith)
@@ -122,8 +122,9 @@ closed-then : {first second : List Rule} {negated before words after : List ℕ}
 closed-then {first} {second} {negated} {before} {words} {after} a c d = record {
   in-lane = λ n j l h.
       d .in-lane n (judged-second first second j) l h
-      ∙ ap (λ (s : Set). least n second (record { seed = s; allowed = full n; negated = lane n l negated })) (c .in-lane n (judged-first first second j) l h)
-      ∙ sym (least-parts n first second (record { seed = lane n l before; allowed = full n; negated = lane n l negated }) a);
+      ∙ ap (λ (s : Set). least n second (record { seed = s; allowed = full n; negated = lane n l negated; undefined = false }))
+      (c .in-lane n (judged-first first second j) l h)
+      ∙ sym (least-parts n first second (record { seed = lane n l before; allowed = full n; negated = lane n l negated; undefined = false }) a);
   beyond = λ n j. record { at = λ o h. d .beyond n (judged-second first second j) .at o h ∙ c .beyond n (judged-first first second j) .at o h };
   laned = d .laned;
 }

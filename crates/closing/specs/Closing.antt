@@ -62,10 +62,10 @@ pub data Passed (rules : List Rule) (negated before : List ℕ) : ℕ → List �
   then : {count : ℕ} {words after : List ℕ} {changed more : Bool} → Passed rules negated before count words changed
       → Raised (getD rules count noRule) negated words after more → Passed rules negated before (count + 1) after (more or changed)
 
--- In each lane the least set that holds the seed and is closed under the rules, of however many objective literals they speak. Past these the
--- words stay.
+-- In each lane the least set that holds the seed and is closed under the rules, of however many objective literals they speak. u does not hold in it.
+-- Past these the words stay.
 pub record ClosedTrue (rules : List Rule) (negated before after : List ℕ) : Type 0 where
   pub in-lane : (n : ℕ) → Judged n rules → (l : ℕ) → l < 64
-      → lane n l after ≡ least n rules (record { seed = lane n l before; allowed = full n; negated = lane n l negated })
+      → lane n l after ≡ least n rules (record { seed = lane n l before; allowed = full n; negated = lane n l negated; undefined = false })
   pub beyond : (n : ℕ) → Judged n rules → KeptFrom n before after
   pub laned : Laned after

@@ -6,7 +6,7 @@ ghost use Rattle.parts.specs.Parts.{headAt};
 ghost use Rattle.closing.specs.FalseWords.{EntryStands, EntriesVisited, EntriesStand, SomeWord, EntryWord, Dropped, DroppedTo, PartDropped, FalseWords};
 ghost use lib.ListN.{length, getD};
 ghost use mathlib.Core.Path.{_≡_};
-use decoded::literal_in;
+use decoded::body_literal_in;
 use decoded::number_in;
 use decoded::objective_in;
 use lanes::words::other_lanes;
@@ -24,7 +24,7 @@ fn clause_word(clause: &[u16], truth: &[u64; 513], falses: &[u64; 513]) -> u64
     let mut word: u64 = 0;
     let mut i: usize = 0;
     while i < count {
-        let x = literal_in(clause, i);
+        let x = body_literal_in(clause, i);
         word = word | word_of(x, truth, falses);
         i += 1;
     }

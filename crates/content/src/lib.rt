@@ -3,21 +3,34 @@
 ghost use mathlib.Core.Path.{_≡_};
 ghost use Prim.Native.Nat.{_+_, _<_};
 ghost use lib.ListN.{length};
-ghost use Rattle.papers.specs.Field.{numbers};
-ghost use Rattle.papers.specs.Content.{abduciblesFault, literalsFault, isAmong, ruleFault, bodyFault};
+ghost use Rattle.papers.specs.Field.{numberIn, numbers};
+ghost use Rattle.papers.specs.Content.{abduciblesFault, literalAllowed, literalsFault, isAmong, ruleFault, bodyFault};
 use conjugates::AtomOf;
 use literals::Atom;
+use literals::bodies::is_body_listed;
 use numbered::atom_at;
+use numbered::body_literal_at;
 use numbered::literal_at;
 use numbered::objective_at;
 
-pub fn literals_fault(content: &[u8], atoms: u16) -> u8
-    ensures { λ r. ⌜ r ≡ literalsFault atoms (numbers (now (content .entry))) ⌝ }
+// Whether the literal at a place may stand there: in a body it may be u.
+fn is_allowed(content: &[u8], place: usize, atoms: u16, in_body: bool) -> bool
+    requires { ⌜ place + 1 < length (now content) ⌝ }
+    ensures { λ r. ⌜ r ≡ literalAllowed «in_body» atoms (numberIn (now (content .entry)) place) ⌝ }
+{
+    if in_body {
+        return is_body_listed(body_literal_at(content, place), atoms);
+    }
+    literals::is_literal_listed(literal_at(content, place), atoms)
+}
+
+pub fn literals_fault(content: &[u8], atoms: u16, in_body: bool) -> u8
+    ensures { λ r. ⌜ r ≡ literalsFault «in_body» atoms (numbers (now (content .entry))) ⌝ }
 {
     let count = content.len() / 2;
     let mut i: usize = 0;
     while i < count {
-        if !literals::is_literal_listed(literal_at(content, 2 * i), atoms) {
+        if !is_allowed(content, 2 * i, atoms, in_body) {
             return 6;
         }
         i += 1;
@@ -73,7 +86,7 @@ fn rule_fault(content: &[u8], abducibles: &[u8], atoms: u16) -> u8
     if is_among(abducibles, atom) {
         return 8;
     }
-    literals_fault(&content[2..], atoms)
+    literals_fault(&content[2..], atoms, true)
 }
 
 pub fn body_fault(tag: u8, content: &[u8], abducibles: &[u8], atoms: u16) -> u8
@@ -83,5 +96,5 @@ pub fn body_fault(tag: u8, content: &[u8], abducibles: &[u8], atoms: u16) -> u8
     if tag == 0x04 {
         return rule_fault(content, abducibles, atoms);
     }
-    literals_fault(content, atoms)
+    literals_fault(content, atoms, true)
 }

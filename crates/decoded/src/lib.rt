@@ -2,9 +2,11 @@
 ghost use mathlib.Core.Path.{_≡_};
 ghost use Prim.Native.Nat.{_<_};
 ghost use lib.ListN.{length, getD};
+ghost use Rattle.literals.specs.BodyLiterals.{bodyLiteral};
 use arrays::wide;
-use literals::Literal;
 use literals::Objective;
+use literals::bodies::BodyLiteral;
+use literals::bodies::body_literal;
 
 // The number at a place of a row.
 pub fn number_in(row: &[u16], place: usize) -> usize
@@ -22,10 +24,10 @@ pub fn objective_in(row: &[u16], place: usize) -> Objective
     Objective(number_in(row, place))
 }
 
-// A literal, of a body, a clause or a query.
-pub fn literal_in(row: &[u16], place: usize) -> Literal
+// A literal of a body, a clause or a query: a number or u, which no query has.
+pub fn body_literal_in(row: &[u16], place: usize) -> BodyLiteral
     requires { ⌜ place < length (now row) ⌝ }
-    ensures { λ r. ⌜ r .0 ≡ getD (now (row .entry)) place 0 ⌝ }
+    ensures { λ r. ⌜ r ≡ bodyLiteral (getD (now (row .entry)) place 0) ⌝ }
 {
-    Literal(number_in(row, place))
+    body_literal(number_in(row, place))
 }

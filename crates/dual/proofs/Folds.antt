@@ -3,18 +3,20 @@
 use mathlib.Core.Path.{_≡_, refl}
 use mathlib.Core.Bool.{Bool, true, false, cond, true≢false}
 use mathlib.Core.List.{List, [], _∷_, _++_, map}
+use mathlib.Core.Logic.{⊎-elim}
 use Prim.Native.Nat.{ℕ, zero, suc, _+_, _-_, _≤_, _<_}
 use native.Mathlib.Omega.{arith}
 use borrow.Author.Tests.{eqb-true, eq-eqb}
 use lib.Dec.{eqb}
 use lib.ListN.{length, getD, drop}
-use Rattle.literals.specs.Numbering.{defaultConjugate}
-use Rattle.literals.proofs.NumberingLaws.{default-twice}
+use Rattle.literals.specs.BodyLiterals.{conjugateNumber}
+use Rattle.literals.proofs.BodyLaws.{conjugate-number-twice}
 use Rattle.papers.specs.Program.{Rule, Program, allRules, noRule}
 use Rattle.papers.specs.Content.{isAmong}
-use Rattle.papers.specs.Valid.{All, Rising}
+use Rattle.papers.specs.Valid.{All, Rising, InBody, Valid}
 use Rattle.papers.specs.Valid.{All.none as nothing, All.each as each, Rising.none as flat, Rising.next as above}
 use Rattle.papers.proofs.Lists.{all-each}
+use Rattle.papers.proofs.RuleLaws.{rule-fitting}
 use Rattle.dual.specs.Table.{foldsFrom, foldsOf, isEmpty, isFact, foldField}
 use Rattle.dual.specs.TableEncoding.{numbersOf}
 use Rattle.dual.specs.Length.{ruleLength, rulesLength}
@@ -195,11 +197,16 @@ rules-append (r ∷ more) b o = rw (rules-append more b o) (go (eqb (r .head) o)
 
 -- ---- a fold's field
 
-conjugates-undone : (l : List ℕ) → map defaultConjugate (map defaultConjugate l) ≡ l
-conjugates-undone [] = refl
-conjugates-undone (x ∷ more) = let h = default-twice x in let ih = conjugates-undone more in cc
+-- FFFE, whose conjugate would be read as u, stands in no body.
+conjugates-undone : (n : ℕ) → n ≤ 256 → {l : List ℕ} → All (InBody n) l → map conjugateNumber (map conjugateNumber l) ≡ l
+conjugates-undone n few nothing = refl
+conjugates-undone n few (each {a = x} h rest) =
+    let here = conjugate-number-twice x (λ e. ⊎-elim (λ k. absurd (omega arith)) (λ k. absurd (omega arith)) h) in
+    let ih = conjugates-undone n few rest in
+    cc
 
--- It tells its rule's body: the default conjugates of what it lists, in order.
-pub fold-tells-body : (rules : List Rule) (k : ℕ) → map defaultConjugate (drop 1 (numbersOf (foldField rules k))) ≡ (getD rules k noRule) .body
+-- It tells its rule's body: the default conjugates of what it lists, in order, u for u.
+pub fold-tells-body : (p : Program) → Valid p → (k : ℕ) → k < length (allRules p)
+    → map conjugateNumber (drop 1 (numbersOf (foldField (allRules p) k))) ≡ (getD (allRules p) k noRule) .body
 unfolding foldField
-fold-tells-body rules k = conjugates-undone ((getD rules k noRule) .body)
+fold-tells-body p v k h = conjugates-undone (p .atoms) (v .fewAtoms) (rule-fitting p v k h .body .listed)

@@ -7,7 +7,8 @@ use Prim.Native.Nat.{ℕ, zero, suc, _+_, _*_}
 use native.Mathlib.Omega.{arith}
 use lib.Dec.{eqb}
 use lib.ListN.{length, getD, drop, length-append, length-map}
-use Rattle.literals.specs.Numbering.{defaultConjugate, judged}
+use Rattle.literals.specs.Numbering.{judged}
+use Rattle.literals.specs.BodyLiterals.{conjugateNumber}
 use Rattle.papers.specs.Program.{Rule, Program, allRules, noRule}
 use Rattle.papers.specs.Encoding.{encodeNumbers, encodeField}
 use Rattle.papers.proofs.NumberLaws.{length-encoded}
@@ -39,7 +40,7 @@ module _ (all : List Rule) where
   folds-step j folds =
       let body = (getD all j noRule) .body in
       let l = length-fields (foldField all j) (map (foldField all) folds) in
-      let m = length-map body defaultConjugate in
+      let m = length-map body conjugateNumber in
       omega arith
 
   -- They are counted rule by rule, from fold number j on.

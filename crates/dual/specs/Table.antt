@@ -4,7 +4,8 @@ use mathlib.Core.List.{List, [], _∷_, _++_, map}
 use Prim.Native.Nat.{ℕ, zero, suc, _+_}
 use lib.Dec.{eqb}
 use lib.ListN.{getD}
-use Rattle.literals.specs.Numbering.{atomNumber, defaultConjugate, judged}
+use Rattle.literals.specs.Numbering.{atomNumber, judged}
+use Rattle.literals.specs.BodyLiterals.{conjugateNumber}
 use Rattle.papers.specs.Program.{Rule, Program, allRules, noRule}
 use Rattle.papers.specs.Content.{isAmong}
 
@@ -37,9 +38,10 @@ isFact (r ∷ more) o = let rest = isFact more o in cond (eqb (r .head) o) (cond
 unfoldable pub hasEntry : Program → ℕ → Bool
 hasEntry p o = not (isAmong (p .abducibles) (atomNumber o)) && not (isFact (allRules p) o)
 
--- "09 with the fold number and the default conjugate (not added or removed) of each body literal in order."
+-- "09 with the fold number and the default conjugate (not added or removed) of each body literal in order." Card 5: of u
+-- it is u.
 unfoldable pub foldField : List Rule → ℕ → Field
-foldField rules k = fold k (map defaultConjugate ((getD rules k noRule) .body))
+foldField rules k = fold k (map conjugateNumber ((getD rules k noRule) .body))
 
 -- "08 with its number and the fold numbers of its rules, rising; then for each of these rules 09."
 unfoldable pub entry : Program → ℕ → List Field

@@ -14,7 +14,7 @@ use lib.ListN.{length, take, drop}
 use Rattle.papers.specs.declared.Contents.{Contents}
 use Rattle.papers.specs.declared.PapersRead.the-variants.{Accepted}
 use Rattle.papers.specs.Program.{Program, Query}
-use Rattle.papers.specs.Valid.{ValidBody}
+use Rattle.papers.specs.Valid.{ValidQuery}
 use Rattle.papers.specs.Field.{numbers}
 use Rattle.papers.specs.Outcome.{Outcome, accepted}
 use Rattle.papers.specs.Reading.{readPapers, programIn, Papers}
@@ -47,7 +47,7 @@ module _ {file sheet : List ℕ} {contents : Contents} {literals : ℕ} (both : 
   pub both-read : Bytes sheet → readPapers file sheet ≡ accepted (papersIn file sheet literals)
   both-read b = both .is ∙ ap (λ (q : Query). accepted (record { program = programIn file; query = q })) (sym (query-is b))
 
-  pub both-asked : Bytes sheet → ValidBody ((programIn file) .atoms) (papersIn file sheet literals .query)
+  pub both-asked : Bytes sheet → ValidQuery ((programIn file) .atoms) (papersIn file sheet literals .query)
   both-asked b = rw (query-is b) (both .valid)
 
   pub few-abducibles : contents .abducibles ≤ 16

@@ -6,7 +6,7 @@ use Prim.Native.Nat.{ℕ, _+_, _*_, _≤_, _<_}
 use native.Mathlib.Omega.{arith}
 use lib.ListN.{length, getD, take, drop, length-append, length-map}
 use lib.Seq.{length-take-le}
-use Rattle.literals.specs.Numbering.{defaultConjugate}
+use Rattle.literals.specs.BodyLiterals.{conjugateNumber}
 use Rattle.papers.specs.Program.{Rule, Program, allRules, noRule}
 use Rattle.papers.specs.Encoding.{encodeNumbers, encodeField}
 use Rattle.papers.specs.Valid.{All}
@@ -25,7 +25,7 @@ use Rattle.dual.proofs.FilledLaws.{filled-part, filled-again, filled-whole}
 
 -- The field of one fold.
 abbrev pub oneFold : List Rule → ℕ → List ℕ
-oneFold rules k = encodeField 0x09 (encodeNumbers (k ∷ map defaultConjugate ((getD rules k noRule) .body)))
+oneFold rules k = encodeField 0x09 (encodeNumbers (k ∷ map conjugateNumber ((getD rules k noRule) .body)))
 
 map-append : {A B : Type 0} (f : A → B) (a b : List A) → map f (a ++ b) ≡ map f a ++ map f b
 map-append f [] b = refl
@@ -138,8 +138,8 @@ module _ (p : Program) (next : List ℕ) (o base : ℕ) (start buffer : List ℕ
 
 pub one-length : (rules : List Rule) (k : ℕ) → length (oneFold rules k) ≡ 5 + 2 * length ((getD rules k noRule) .body)
 one-length rules k =
-    let l = length-map ((getD rules k noRule) .body) defaultConjugate in
-    let m = length-one (table.fold k (map defaultConjugate ((getD rules k noRule) .body))) in
+    let l = length-map ((getD rules k noRule) .body) conjugateNumber in
+    let m = length-one (table.fold k (map conjugateNumber ((getD rules k noRule) .body))) in
     omega arith
 
 pub entry-parts : (p : Program) (o : ℕ) → 5 + 2 * length (foldsOf p o) + length (foldBytes (allRules p) (foldsOf p o)) ≡ length (encodeFields (entry p o))

@@ -5,11 +5,11 @@ use mathlib.Core.List.{List, [], _∷_, _++_, map, append-assoc, append-nil}
 use Prim.Native.Nat.{ℕ, suc, _+_, _*_, _/_, _%_, _≤_, _<_}
 use native.Mathlib.Omega.{arith}
 use lib.ListN.{length, getD, take, drop, set, length-append, length-map}
-use Rattle.literals.specs.Numbering.{defaultConjugate}
+use Rattle.literals.specs.BodyLiterals.{conjugateNumber}
 use Rattle.papers.specs.Field.{number, numbers}
 use Rattle.papers.specs.Encoding.{encodeNumbers, encodeField}
 use Rattle.papers.proofs.NumberLaws.{length-encoded}
-use Rattle.papers.proofs.NumbersWalked.{read-number, no-number}
+use Rattle.papers.proofs.NumbersWalked.{next-number, no-number}
 use Rattle.dual.specs.Bytes.{filled}
 use Rattle.dual_writer.specs.Chains.{Chain}
 use Rattle.dual_writer.proofs.ChainLaws.{Following, following-starts, following-done, following-link, following-room, following-next}
@@ -47,29 +47,30 @@ pub record Conjugated (start body buffer : List ℕ) (i : ℕ) : Type 0 where
   pub done : List ℕ
   pub split : numbers body ≡ done ++ numbers (drop (2 * i) body)
   pub size : length done ≡ i
-  pub written : Numbered 5 start buffer (map defaultConjugate done)
+  pub written : Numbered 5 start buffer (map conjugateNumber done)
 
 pub conjugated-none : (start body : List ℕ) → 5 ≤ length start → Conjugated start body start 0
 conjugated-none start body h = record { done = []; split = refl; size = refl; written = numbered-none 5 start h }
 
 module _ (start body buffer : List ℕ) (i : ℕ) (w : Conjugated start body buffer i) (fits : 5 + length body ≤ length start) where
-  mapped : length (map defaultConjugate (w .done)) ≡ i
-  mapped = length-map (w .done) defaultConjugate ∙ w .size
+  mapped : length (map conjugateNumber (w .done)) ≡ i
+  mapped = length-map (w .done) conjugateNumber ∙ w .size
 
-  pub conjugated-more : i < length body / 2 → {l v : ℕ} → l ≡ number (getD body (2 * i) 0) (getD body (2 * i + 1) 0) → v ≡ defaultConjugate l
+  pub conjugated-more : i < length body / 2 → {v : ℕ} → v ≡ conjugateNumber (number (getD body (2 * i) 0) (getD body (2 * i + 1) 0))
       → Conjugated start body (set (set buffer (5 + 2 * i) (v / 256)) (5 + 2 * i + 1) (v % 256)) (i + 1)
-  conjugated-more h {l} {v} e c =
+  conjugated-more h {v} c =
       let m = mapped in
-      let n : numbers (drop (2 * i) body) ≡ l ∷ numbers (drop (2 * (i + 1)) body) = read-number body i h e in
-      let more = numbered-more 5 start buffer (map defaultConjugate (w .done)) (w .written) (omega arith) (5 + 2 * i) v (omega arith) (omega arith) in
+      let l = number (getD body (2 * i) 0) (getD body (2 * i + 1) 0) in
+      let n : numbers (drop (2 * i) body) ≡ l ∷ numbers (drop (2 * (i + 1)) body) = next-number body i h in
+      let more = numbered-more 5 start buffer (map conjugateNumber (w .done)) (w .written) (omega arith) (5 + 2 * i) v (omega arith) (omega arith) in
       record {
         done = w .done ++ l ∷ [];
         split = w .split ∙ ap (λ (x : List ℕ). w .done ++ x) n ∙ sym (append-assoc (w .done) (l ∷ []) (numbers (drop (2 * (i + 1)) body)));
         size = simp length-append (let s = w .size in omega arith);
-        written = rw (map-more defaultConjugate (w .done) l, ← c) more;
+        written = rw (map-more conjugateNumber (w .done) l, ← c) more;
       }
 
-  pub conjugated-done : length body / 2 ≤ i → Numbered 5 start buffer (map defaultConjugate (numbers body))
+  pub conjugated-done : length body / 2 ≤ i → Numbered 5 start buffer (map conjugateNumber (numbers body))
   conjugated-done h =
       let n : numbers body ≡ w .done = w .split ∙ ap (λ (x : List ℕ). w .done ++ x) (no-number body i h) ∙ append-nil (w .done) in
       rw n (w .written)

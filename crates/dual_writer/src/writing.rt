@@ -4,6 +4,7 @@ ghost use mathlib.Core.List.{_∷_, map};
 ghost use Prim.Native.Nat.{_+_, _*_, _<_, _≤_};
 ghost use lib.ListN.{length};
 ghost use Rattle.literals.specs.Numbering.{defaultConjugate};
+ghost use Rattle.literals.specs.BodyLiterals.{bodyNumber, bodyConjugate, conjugateNumber};
 ghost use Rattle.papers.specs.Field.{numbers};
 ghost use Rattle.papers.specs.Encoding.{encodeNumbers, encodeField};
 ghost use Rattle.dual.specs.Bytes.{filled};
@@ -15,7 +16,9 @@ use field_writer::put_number;
 use literals::Fold;
 use literals::Literal;
 use literals::Objective;
-use numbered::literal_at;
+use literals::bodies::BodyLiteral;
+use literals::bodies::body_number;
+use numbered::body_literal_at;
 
 // The default conjugate of a literal that was read: two bytes, so it is one of 16,384 atoms, whatever the file's count.
 fn conjugate_of(l: Literal) -> Literal
@@ -29,6 +32,17 @@ fn conjugate_of(l: Literal) -> Literal
     other
 }
 
+// The default conjugate of a body literal that was read: "Its default conjugate is itself", where it is u.
+fn body_conjugate(l: BodyLiteral) -> BodyLiteral
+    requires { ⌜ bodyNumber l < 65536 ⌝ }
+    ensures { λ r. ⌜ (r ≡ bodyConjugate l) × (bodyNumber r < 65536) ⌝ }
+{
+    match l {
+        BodyLiteral::Is(literal) => BodyLiteral::Is(conjugate_of(literal)),
+        BodyLiteral::Undefined => BodyLiteral::Undefined,
+    }
+}
+
 // 09: the fold number, and the default conjugate of each body literal.
 pub(crate) fn write_fold(buffer: &mut [u8], fold: Fold, body: &[u8]) -> usize
     requires { ⌜
@@ -39,15 +53,16 @@ pub(crate) fn write_fold(buffer: &mut [u8], fold: Fold, body: &[u8]) -> usize
         ⌝ }
     ensures { λ r. ⌜ (r ≡ 5 + length (now (body .entry)))
         × (now (buffer .exit)
-        ≡ filled (encodeField 0x09 (encodeNumbers (fold .0 ∷ map defaultConjugate (numbers (now (body .entry)))))) (now (buffer .entry))) ⌝ }
+        ≡ filled (encodeField 0x09 (encodeNumbers (fold .0 ∷ map conjugateNumber (numbers (now (body .entry)))))) (now (buffer .entry))) ⌝ }
 {
     let size = body.len();
     put_heading(buffer, 0x09, 2 + size, fold.0);
     let count = size / 2;
     let mut i: usize = 0;
     while i < count {
-        let conjugate = conjugate_of(literal_at(body, 2 * i));
-        put_number(buffer, 5 + 2 * i, conjugate.0);
+        let conjugate = body_conjugate(body_literal_at(body, 2 * i));
+        let number = body_number(conjugate);
+        put_number(buffer, 5 + 2 * i, number);
         i += 1;
     }
     5 + size

@@ -1,11 +1,14 @@
 -- Sixty-four scenarios at once: the word of a literal, and that of a body.
 use mathlib.Core.Path.{_≡_}
-use mathlib.Core.Bool.{not, cond}
+use mathlib.Core.Bool.{false, not, cond}
 use mathlib.Core.List.{List, [], _∷_}
 use Prim.Native.Nat.{ℕ, _+_, _-_, _<_}
 use lib.Bits.{bitOr}
 use lib.ListN.{length, getD}
+use Rattle.literals.specs.declared.bodies.BodyLiteral.{BodyLiteral}
+use Rattle.literals.specs.declared.bodies.BodyLiteral.the-variants.{Is, Undefined}
 use Rattle.literals.specs.Numbering.{objectiveNumber, defaultNegated}
+use Rattle.literals.specs.BodyLiterals.{bodyLiteral, Below}
 use Rattle.papers.specs.Valid.{All}
 use Rattle.model.specs.LeastSet.{bodyHolds}
 use Rattle.papers.specs.Tests.{_and_}
@@ -15,21 +18,18 @@ use Rattle.lanes.specs.Lanes.{inLane, lane}
 pub record OtherLanes (word other : ℕ) : Type 0 where
   pub at : (l : ℕ) → l < 64 → inLane l other ≡ not (inLane l word)
 
--- The lanes in which literal l holds: those of o in `set`, of not(g) those of g in `negated`.
-unfoldable pub wordOf : ℕ → List ℕ → List ℕ → ℕ
-wordOf l set negated = cond (defaultNegated l) (getD negated (objectiveNumber l) 0) (getD set (objectiveNumber l) 0)
+-- The lanes in which a body literal holds: those of o in `set`, of not(g) those of g in `negated`, and none of u.
+unfoldable pub wordOf : BodyLiteral → List ℕ → List ℕ → ℕ
+wordOf (Is l) set negated = cond (defaultNegated (l .0)) (getD negated (objectiveNumber (l .0)) 0) (getD set (objectiveNumber (l .0)) 0)
+wordOf Undefined set negated = 0
 
--- The literal's objective literal is one of the first n.
-abbrev pub Below : ℕ → ℕ → Type 0
-Below n l = objectiveNumber l < n
-
--- That of each literal is.
+-- The objective literal of each literal is one of the first n.
 pub record Literals (n : ℕ) (body : List ℕ) : Type 0 where
-  pub below : All (Below n) body
+  pub below : All (λ l. Below n (bodyLiteral l)) body
 
--- A body's word: those of the lanes in which it holds, of however many objective literals it speaks.
+-- A body's word: those of the lanes in which it holds, of however many objective literals it speaks. u never holds.
 pub record BodyWord (body set negated : List ℕ) (lanes word : ℕ) : Type 0 where
-  pub in-lane : (n : ℕ) → Literals n body → (l : ℕ) → inLane l word ≡ (inLane l lanes and bodyHolds (lane n l set) (lane n l negated) body)
+  pub in-lane : (n : ℕ) → Literals n body → (l : ℕ) → inLane l word ≡ (inLane l lanes and bodyHolds false (lane n l set) (lane n l negated) body)
 
 -- ---- rows of words
 

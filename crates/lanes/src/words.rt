@@ -1,10 +1,13 @@
 // Sixty-four scenarios at once: bit l of word o says whether o is in the set of lane l.
 ghost use mathlib.Core.Path.{_≡_};
 ghost use Prim.Native.Nat.{_<_};
+ghost use Rattle.literals.specs.declared.bodies.BodyLiteral.the-variants.{Is};
+ghost use Rattle.literals.specs.BodyLiterals.{Below};
 ghost use Rattle.lanes.specs.Lanes.{inLane};
-ghost use Rattle.lanes.specs.Words.{OtherLanes, wordOf, Below, Literals, BodyWord, Laned};
-use decoded::literal_in;
+ghost use Rattle.lanes.specs.Words.{OtherLanes, wordOf, Literals, BodyWord, Laned};
+use decoded::body_literal_in;
 use literals::Literal;
+use literals::bodies::BodyLiteral;
 
 // Whether lane l of a word is set.
 pub fn in_lane(word: u64, l: usize) -> bool
@@ -22,9 +25,9 @@ pub fn other_lanes(word: u64) -> u64
 }
 
 // The lanes in which a literal holds.
-pub fn word_of(l: Literal, set: &[u64; 513], negated: &[u64; 513]) -> u64
-    requires { ⌜ Below 513 (l .0) ⌝ }
-    ensures { λ r. ⌜ r ≡ wordOf (l .0) (now (set .entry)) (now (negated .entry)) ⌝ }
+fn literal_word(l: Literal, set: &[u64; 513], negated: &[u64; 513]) -> u64
+    requires { ⌜ Below 513 (Is l) ⌝ }
+    ensures { λ r. ⌜ r ≡ wordOf (Is l) (now (set .entry)) (now (negated .entry)) ⌝ }
 {
     let o = literals::objective_of(l);
     let at = o.0;
@@ -32,6 +35,17 @@ pub fn word_of(l: Literal, set: &[u64; 513], negated: &[u64; 513]) -> u64
         negated[at]
     } else {
         set[at]
+    }
+}
+
+// Those in which a body literal does: u never holds.
+pub fn word_of(l: BodyLiteral, set: &[u64; 513], negated: &[u64; 513]) -> u64
+    requires { ⌜ Below 513 l ⌝ }
+    ensures { λ r. ⌜ r ≡ wordOf l (now (set .entry)) (now (negated .entry)) ⌝ }
+{
+    match l {
+        BodyLiteral::Is(literal) => literal_word(literal, set, negated),
+        BodyLiteral::Undefined => 0,
     }
 }
 
@@ -47,7 +61,7 @@ pub fn body_word(body: &[u16], set: &[u64; 513], negated: &[u64; 513], lanes: u6
         if word == 0 {
             return 0;
         }
-        let l = literal_in(body, i);
+        let l = body_literal_in(body, i);
         word = word & word_of(l, set, negated);
         i += 1;
     }

@@ -1,6 +1,7 @@
 // Document 01, Numberings: a type for each of the four, so that a number of one cannot stand where another is due.
 // Atoms and rules are counted in 16 bits, so that every number made of them fits a word and no public function has a `requires`. The other three are as
 // wide as an index, so that each is one where its own array is read.
+pub mod bodies;
 pub mod forms;
 
 ghost use mathlib.Core.Path.{_≡_};

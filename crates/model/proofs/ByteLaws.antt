@@ -3,16 +3,19 @@
 use mathlib.Core.Path.{_≡_, refl, sym, ap, ap₂, subst, _∙_}
 use mathlib.Core.Bool.{Bool, true, false, not, cond}
 use mathlib.Core.List.{List, [], _∷_}
-use Prim.Native.Nat.{ℕ, zero, suc, _+_, _<_}
+use Prim.Native.Nat.{ℕ, zero, suc, _+_, _*_, _≤_, _<_}
 use native.Mathlib.Nat.{not-suc-le-zero, le-of-suc-le-suc, add-zero, zero-add}
 use native.Mathlib.Numerals.{add-one}
 use native.Mathlib.Omega.{arith}
 use lib.Dec.{T, eqb, eqb→eq, T-not}
 use lib.ListN.{length, getD}
 use Rattle.literals.specs.Numbering.{objectiveNumber, defaultNegated, judged, falsum}
+use Rattle.literals.specs.BodyLiterals.{bodyLiteral}
+use Rattle.literals.proofs.BodyLaws.{literal-read}
 use Rattle.papers.specs.Program.{Program, Query}
 use Rattle.papers.specs.Valid.{All, All.none as nothing, All.each as each}
 use Rattle.papers.specs.Tests.{_and_, _or_}
+use Rattle.papers.proofs.Lists.{all-each}
 use Rattle.papers.proofs.TestLaws.{right, either-left, either-right, passes, is-false, or-false, false-or, or-assoc}
 use Rattle.model.specs.Sets.{Set, has, flagsFrom, setOf}
 use Rattle.model.specs.LeastSet.{literalHolds, bodyHolds}
@@ -106,16 +109,17 @@ module _ (a b : ℕ → Bool) where
 -- ---- a query
 
 module _ (n : ℕ) (trues falses : Set) (ht : length trues ≡ n) (hf : length falses ≡ n) where
-  query-literal : (l : ℕ) → objectiveNumber l < n → queryLiteralHolds (valueBytes trues falses) l ≡ literalHolds trues falses l
+  -- A number that is not FFFF is asked as a body's would be.
+  query-literal : (l : ℕ) → l < 2 * n → l < 0xFFFF → queryLiteralHolds (valueBytes trues falses) l ≡ literalHolds false trues falses (bodyLiteral l)
   unfolding queryLiteralHolds literalHolds
-  query-literal l h =
-      rw (bytes-at trues falses (objectiveNumber l) (omega arith) (omega arith))
+  query-literal l h k =
+      rw (bytes-at trues falses (objectiveNumber l) (omega arith) (omega arith), literal-read l (λ e. omega arith))
       (byte-tells (defaultNegated l) (has trues (objectiveNumber l)) (has falses (objectiveNumber l)))
 
-  query-body : {q : Query} → All (λ l. objectiveNumber l < n) q → queryHolds (valueBytes trues falses) q ≡ bodyHolds trues falses q
+  query-body : {q : Query} → All (λ l. (l < 2 * n) × (l < 0xFFFF)) q → queryHolds (valueBytes trues falses) q ≡ bodyHolds false trues falses q
   unfolding queryHolds bodyHolds
   query-body nothing = refl
-  query-body (each {a = l} {more = more} h rest) = ap₂ _and_ (query-literal l h) (query-body rest)
+  query-body (each {a = l} {more = more} h rest) = ap₂ _and_ (query-literal l (h .0) (h .1)) (query-body rest)
 
 -- ---- of the model
 
@@ -137,15 +141,16 @@ module _ (p : Program) (s : ℕ) where
       T-not (contradictory bytes) (right (queryHolds bytes q) _ h) (contradictory-at bytes o both)
 
   -- An explanation, by the sets: falsum false and not true, each literal of the query holding as a body's does, and no literal both.
-  pub explains-is : {q : Query} → All (λ l. objectiveNumber l < judged (p .atoms)) q
+  pub explains-is : p .atoms ≤ 256 → {q : Query} → All (_< 4 * p .atoms) q
       → explains p q s
       ≡ ((not (has (model p s .trues) (falsum (p .atoms))) and has (model p s .falses) (falsum (p .atoms)))
-      and bodyHolds (model p s .trues) (model p s .falses) q
+      and bodyHolds false (model p s .trues) (model p s .falses) q
       and not (contradictory (valueBytes (model p s .trues) (model p s .falses))))
   unfolding explains explainsBy
-  explains-is h =
+  explains-is few h =
       let z = model-sized p s in
       ap₂ _and_
       (rw (model-byte (falsum (p .atoms)) (omega arith)) (byte-false _ _))
       (unfold modelBytes in ap (λ (x : Bool). x and not (contradictory (valueBytes (model p s .trues) (model p s .falses))))
-      (query-body (judged (p .atoms)) (model p s .trues) (model p s .falses) (z .trues) (z .falses) h))
+      (query-body (judged (p .atoms)) (model p s .trues) (model p s .falses) (z .trues) (z .falses)
+      (all-each (λ l k. (omega arith, omega arith)) h)))

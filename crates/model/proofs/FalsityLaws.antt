@@ -8,6 +8,7 @@ use native.Mathlib.Omega.{arith}
 use lib.Dec.{T}
 use lib.ListN.{length}
 use Rattle.literals.specs.Numbering.{judged}
+use Rattle.literals.specs.BodyLiterals.{bodyLiteral}
 use Rattle.papers.specs.Program.{Program, allRules}
 use Rattle.papers.specs.Content.{isAmong}
 use Rattle.papers.specs.Valid.{Valid}
@@ -34,7 +35,7 @@ module _ (fields : List Field) (trues : Set) {set set′ : Set} (h : Sub set set
   some-mono : (l : List ℕ) → T (someHolds trues set l) → T (someHolds trues set′ l)
   unfolding someHolds
   some-mono [] t = t
-  some-mono (l ∷ more) t = or-mono _ _ _ _ (literal-mono sub-refl h l) (some-mono more) t
+  some-mono (l ∷ more) t = or-mono _ _ _ _ (literal-mono false false (λ u. u) sub-refl h (bodyLiteral l)) (some-mono more) t
 
   folds-mono : (folds : List ℕ) → T (foldsHold fields trues set folds) → T (foldsHold fields trues set′ folds)
   unfolding foldsHold
@@ -117,7 +118,7 @@ module _ (p : Program) (v : Valid p) (s : ℕ) (trues set : Set) where
   possible o = trueAbducible p s o or undefinedAbducible p s o
 
   abbrev supports : ℕ → Bool
-  supports o = supported set (complement n trues) (allRules p) o
+  supports o = supported true set (complement n trues) (allRules p) o
 
   abbrev entryOf : ℕ → Bool
   entryOf o = entryHolds (dual p) trues (complement n set) (dual p) o
@@ -126,7 +127,7 @@ module _ (p : Program) (v : Valid p) (s : ℕ) (trues set : Set) where
   at-abducible o h e =
       rw (
         entry-dual (dual p) trues (complement n set) p o h,
-        abducible-unsupported p v set (complement n trues) o e,
+        abducible-unsupported p v true set (complement n trues) o e,
         abducible-split p s o e,
         or-false (possible o),
         no-entry,
@@ -145,7 +146,7 @@ module _ (p : Program) (v : Valid p) (s : ℕ) (trues set : Set) where
 
         go : (b : Bool) → isFact (allRules p) o ≡ b
             → (hasEntry p o and foldsHold (dual p) trues (complement n set) (foldsOf p o)) ≡ not (supports o)
-        go true q = rw (entry-is true q, fact-supported (allRules p) set (complement n trues) o q) (false-and _)
+        go true q = rw (entry-is true q, fact-supported (allRules p) true set (complement n trues) o q) (false-and _)
         go false q = rw (entry-is false q, true-and) (folds-dual p v set trues o h (entry-is false q))
 
   at-each : (o : ℕ) → o < n → (falseAbducible p s o or entryOf o) ≡ not (possible o or supports o)
@@ -166,6 +167,10 @@ module _ (p : Program) (v : Valid p) (s : ℕ) (trues set : Set) where
   unfolding possibleReduct
   negated-is = refl
 
+  undefined-is : possibleReduct p s trues .undefined ≡ true
+  unfolding possibleReduct
+  undefined-is = refl
+
   has-backed : (o : ℕ) → o < n
       → has (backedSet p s (dual p) trues (complement n set)) o ≡ (conjugateIn (p .atoms) trues o or (falseAbducible p s o or entryOf o))
   unfolding backedSet backed
@@ -181,6 +186,7 @@ module _ (p : Program) (v : Valid p) (s : ℕ) (trues set : Set) where
         has-allowed o h,
         has-seed o h,
         negated-is,
+        undefined-is,
         at-each o h,
       )
       (unless (conjugateIn (p .atoms) trues o) (possible o or supports o))

@@ -9,7 +9,8 @@ use native.Mathlib.Decide.{ℕ-discrete}
 use borrow.Author.Tests.{eq-eqb, ne-eqb, eqb-true}
 use lib.Dec.{eqb}
 use lib.ListN.{getD}
-use Rattle.literals.specs.Numbering.{defaultConjugate, judged}
+use Rattle.literals.specs.Numbering.{judged}
+use Rattle.literals.specs.BodyLiterals.{conjugateNumber}
 use Rattle.papers.specs.Program.{Rule, Program, allRules, noRule}
 use Rattle.papers.specs.Content.{isAmong}
 use Rattle.dual.specs.Table.{Field, foldsOf, hasEntry, foldField, entry, entriesFrom, dual}
@@ -21,7 +22,7 @@ use Rattle.papers.proofs.TestLaws.{or-false, false-or, false-and, true-and}
 
 -- The default conjugates of a rule's body.
 abbrev pub conjugates : List Rule → ℕ → List ℕ
-conjugates rules k = map defaultConjugate ((getD rules k noRule) .body)
+conjugates rules k = map conjugateNumber ((getD rules k noRule) .body)
 
 -- ---- the 09 field of a fold
 

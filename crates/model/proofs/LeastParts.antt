@@ -10,6 +10,8 @@ use borrow.Author.Tests.{eqb-false}
 use lib.Dec.{T, eqb}
 use lib.ListN.{length, getD}
 use Rattle.literals.specs.Numbering.{defaultNegated}
+use Rattle.literals.specs.BodyLiterals.{bodyLiteral}
+use Rattle.literals.proofs.BodyLaws.{body-cases}
 use Rattle.papers.specs.Program.{Rule, noRule}
 use Rattle.papers.specs.Tests.{_and_, _or_}
 use Rattle.model.specs.Sets.{Set, has}
@@ -27,17 +29,23 @@ pub record ApartRules (first second : List Rule) : Type 0 where
 
 -- ---- what holds in a smaller set
 
-module _ (set less negated : Set) where
-  -- not(g) holds in it too, and o where it is in it.
-  literal-kept : (l : ℕ) → ((o : ℕ) → l ≡ 2 * o → T (has set o) → T (has less o)) → T (literalHolds set negated l) → T (literalHolds less negated l)
+module _ (undefined : Bool) (set less negated : Set) where
+  -- not(g) holds in it too, u as before, and o where it is in it.
+  literal-kept : (l : ℕ) → ((o : ℕ) → l ≡ 2 * o → T (has set o) → T (has less o))
+      → T (literalHolds undefined set negated (bodyLiteral l)) → T (literalHolds undefined less negated (bodyLiteral l))
   unfolding literalHolds
-  literal-kept l f = go (defaultNegated l) refl where
-    go : (b : Bool) → eqb (l % 2) 1 ≡ b → T (cond b (has negated (l / 2)) (has set (l / 2))) → T (cond b (has negated (l / 2)) (has less (l / 2)))
-    go true e t = t
-    go false e t = let ne = eqb-false (l % 2) 1 e in f (l / 2) (omega arith) t
+  literal-kept =
+      body-cases
+      (λ l b. ((o : ℕ) → l ≡ 2 * o → T (has set o) → T (has less o)) → T (literalHolds undefined set negated b) → T (literalHolds undefined less negated b))
+      (λ f t. t)
+      (λ l ne f. go l f (defaultNegated l) refl) where
+        go : (l : ℕ) → ((o : ℕ) → l ≡ 2 * o → T (has set o) → T (has less o)) → (b : Bool) → eqb (l % 2) 1 ≡ b
+            → T (cond b (has negated (l / 2)) (has set (l / 2))) → T (cond b (has negated (l / 2)) (has less (l / 2)))
+        go l f true e t = t
+        go l f false e t = let ne = eqb-false (l % 2) 1 e in f (l / 2) (omega arith) t
 
   body-kept : (body : List ℕ) → ((k o : ℕ) → k < length body → getD body k 0 ≡ 2 * o → T (has set o) → T (has less o))
-      → T (bodyHolds set negated body) → T (bodyHolds less negated body)
+      → T (bodyHolds undefined set negated body) → T (bodyHolds undefined less negated body)
   unfolding bodyHolds
   body-kept [] f t = t
   body-kept (l ∷ more) f t =
@@ -48,15 +56,15 @@ module _ (set less negated : Set) where
 
 -- ---- two lists of rules
 
-module _ (set negated : Set) where
+module _ (undefined : Bool) (set negated : Set) where
   supported-append : (first second : List Rule) (o : ℕ)
-      → supported set negated (first ++ second) o ≡ (supported set negated first o or supported set negated second o)
+      → supported undefined set negated (first ++ second) o ≡ (supported undefined set negated first o or supported undefined set negated second o)
   unfolding supported
-  supported-append [] second o = sym (false-or (supported set negated second o))
+  supported-append [] second o = sym (false-or (supported undefined set negated second o))
   supported-append (r ∷ more) second o =
-      let here = eqb (r .head) o and bodyHolds set negated (r .body) in
+      let here = eqb (r .head) o and bodyHolds undefined set negated (r .body) in
       ap (λ (b : Bool). here or b) (supported-append more second o)
-      ∙ sym (or-assoc here (supported set negated more o) (supported set negated second o))
+      ∙ sym (or-assoc here (supported undefined set negated more o) (supported undefined set negated second o))
 
 module _ (n : ℕ) (first second : List Rule) (g : Reduct) (a : ApartRules first second) where
   -- What the first bring, and what the second add.
@@ -67,7 +75,7 @@ module _ (n : ℕ) (first second : List Rule) (g : Reduct) (a : ApartRules first
   all = least n second (seeded g fore)
 
   -- What is in, is by the first or heads a rule of the second.
-  in-either : (o : ℕ) → T (has all o) → T (has fore o) ⊎ T (supported all (g .negated) second o)
+  in-either : (o : ℕ) → T (has all o) → T (has fore o) ⊎ T (supported (g .undefined) all (g .negated) second o)
   in-either o t =
       let w = has-within all o t in
       let l = least-length n second (seeded g fore) in
@@ -75,19 +83,19 @@ module _ (n : ℕ) (first second : List Rule) (g : Reduct) (a : ApartRules first
       either _ _ (right _ _ (rw e at t))
 
   -- The first ask only for what they brought.
-  first-supported : (o : ℕ) → T (supported all (g .negated) first o) → T (supported fore (g .negated) first o)
+  first-supported : (o : ℕ) → T (supported (g .undefined) all (g .negated) first o) → T (supported (g .undefined) fore (g .negated) first o)
   first-supported o t =
-      let s = supported-tells all (g .negated) first o t in
-      supported-is fore (g .negated) first o (s .0)
+      let s = supported-tells (g .undefined) all (g .negated) first o t in
+      supported-is (g .undefined) fore (g .negated) first o (s .0)
       (record {
         below = s .1 .below;
         heads = s .1 .heads;
-        body = body-kept all fore (g .negated) ((getD first (s .0) noRule) .body)
+        body = body-kept (g .undefined) all fore (g .negated) ((getD first (s .0) noRule) .body)
             (λ k q h e x.
             ⊎-elim
             (λ y. y)
             (λ y.
-            let b = supported-tells all (g .negated) second q y in
+            let b = supported-tells (g .undefined) all (g .negated) second q y in
             absurd (a .apart (s .0) (b .0) k (s .1 .below) (b .1 .below) h (e ∙ ap (λ (z : ℕ). 2 * z) (sym (b .1 .heads)))))
             (in-either q x))
             (s .1 .body);
@@ -103,7 +111,7 @@ module _ (n : ℕ) (first second : List Rule) (g : Reduct) (a : ApartRules first
             ⊎-elim
             (λ y. d .seeds o h m (c .heads o h m (first-supported o y)))
             (d .heads o h m)
-            (either _ _ (rw (supported-append all (g .negated) first second o) at x));
+            (either _ _ (rw (supported-append (g .undefined) all (g .negated) first second o) at x));
       }
 
   pub least-parts : least n (first ++ second) g ≡ least n second (seeded g (least n first g))
@@ -112,11 +120,11 @@ module _ (n : ℕ) (first second : List Rule) (g : Reduct) (a : ApartRules first
       let c = least-closed n (first ++ second) g in
       let from = least-in n first g both (record {
         seeds = c .seeds;
-        heads = λ o h m x. c .heads o h m (rw (supported-append both (g .negated) first second o) (either-left _ _ x));
+        heads = λ o h m x. c .heads o h m (rw (supported-append (g .undefined) both (g .negated) first second o) (either-left _ _ x));
       }) in
       sub-antisym both all (least-length n (first ++ second) g ∙ sym (least-length n second (seeded g fore)))
       (least-in n (first ++ second) g all all-closed)
       (least-in n second (seeded g fore) both (record {
         seeds = λ o h m x. from .at o x;
-        heads = λ o h m x. c .heads o h m (rw (supported-append both (g .negated) first second o) (either-right _ _ x));
+        heads = λ o h m x. c .heads o h m (rw (supported-append (g .undefined) both (g .negated) first second o) (either-right _ _ x));
       }))

@@ -30,5 +30,7 @@ pub mod ByteLaws
 pub mod Support
 -- A least set by parts.
 pub mod LeastParts
+-- u never holds and never fails.
+pub mod UndefinedLaws
 -- What is true has a false conjugate.
 pub mod Coherence

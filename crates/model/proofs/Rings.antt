@@ -6,10 +6,15 @@ use mathlib.Core.List.{List, [], _∷_, map}
 use mathlib.Core.Logic.{⊎-elim}
 use Prim.Native.Nat.{ℕ}
 use native.Mathlib.Omega.{arith}
+use native.Mathlib.Decide.{ℕ-discrete}
 use lib.Dec.{T, eqb→eq}
 use lib.ListN.{length}
-use Rattle.literals.specs.Numbering.{defaultConjugate, defaultNegated, objectiveNumber, judged}
-use Rattle.literals.proofs.NumberingLaws.{default-same-objective}
+use Rattle.literals.specs.declared.bodies.BodyLiteral.{BodyLiteral}
+use Rattle.literals.specs.declared.bodies.BodyLiteral.the-variants.{Is, Undefined}
+use Rattle.literals.specs.Numbering.{defaultNegated, objectiveNumber, judged}
+use Rattle.literals.specs.BodyLiterals.{bodyLiteral, bodyConjugate, conjugateNumber}
+use Rattle.literals.proofs.NumberingLaws.{default-same-objective, default-of-literal}
+use Rattle.literals.proofs.BodyLaws.{undefined-read, literal-conjugate, conjugate-read}
 use Rattle.papers.specs.Program.{Rule, Program, allRules}
 use Rattle.papers.specs.Valid.{All, All.none as nothing, All.each as each, Valid}
 use Rattle.dual.specs.Table.{dual}
@@ -34,25 +39,36 @@ use Rattle.model.proofs.FalsityLaws.{Backed, greatest-holds, falsity-fr
 pub record Ring (p : Program) (s : ℕ) (trues ring : Set) : Type 0 where
   pub sized : length ring ≡ judged (p .atoms)
   pub unseeded : (o : ℕ) → T (has ring o) → T (has (possibleAbducibles p s) o) → ⊥
-  pub excused : All (λ (r : Rule). T (has ring (r .head)) → T (someHolds trues ring (map defaultConjugate (r .body)))) (allRules p)
+  pub excused : All (λ (r : Rule). T (has ring (r .head)) → T (someHolds trues ring (map conjugateNumber (r .body)))) (allRules p)
 
 module _ (n : ℕ) (trues ring : Set) where
-  -- A literal does not hold outside the ring where its default conjugate holds by it.
-  literal-excused : (l : ℕ) → T (literalHolds trues ring (defaultConjugate l)) → T (literalHolds (complement n ring) (complement n trues) l) → ⊥
-  unfolding literalHolds
-  literal-excused l = rw (conjugate-negated l, default-same-objective l) (go (defaultNegated l) (objectiveNumber l)) where
+  -- A literal does not hold outside the ring where its default conjugate holds by it. That of u does not.
+  conjugate-excused : (b : BodyLiteral) → T (literalHolds false trues ring (bodyConjugate b))
+      → T (literalHolds true (complement n ring) (complement n trues) b) → ⊥
+  unfolding literalHolds bodyConjugate
+  conjugate-excused Undefined = λ t u. t
+  conjugate-excused (Is l) = rw (conjugate-negated (l .0), default-same-objective (l .0)) (go (defaultNegated (l .0)) (objectiveNumber (l .0))) where
     go : (b : Bool) (o : ℕ) → T (cond (not b) (has ring o) (has trues o)) → T (cond b (has (complement n trues) o) (has (complement n ring) o)) → ⊥
     go true o t u = complement-in n trues o u .1 t
     go false o t u = complement-in n ring o u .1 t
 
-  body-excused : (body : List ℕ) → T (someHolds trues ring (map defaultConjugate body)) → T (bodyHolds (complement n ring) (complement n trues) body) → ⊥
+  -- What is listed as u never holds, be it that of FFFE.
+  literal-excused : (l : ℕ) → T (literalHolds false trues ring (bodyLiteral (conjugateNumber l)))
+      → T (literalHolds true (complement n ring) (complement n trues) (bodyLiteral l)) → ⊥
+  unfolding literalHolds
+  literal-excused l t = elim (ℕ-discrete l 0xFFFE) [
+    | yes e ↦ absurd (rw (e, literal-conjugate 0xFFFE (λ q. omega arith), default-of-literal 0x7FFF, undefined-read) at t)
+    | no ne ↦ conjugate-excused (bodyLiteral l) (rw (conjugate-read l ne) at t)
+  ]
+
+  body-excused : (body : List ℕ) → T (someHolds trues ring (map conjugateNumber body)) → T (bodyHolds true (complement n ring) (complement n trues) body) → ⊥
   unfolding someHolds bodyHolds
   body-excused [] t u = t
   body-excused (l ∷ more) t u = ⊎-elim (λ e. literal-excused l e (left _ _ u)) (λ e. body-excused more e (right _ _ u)) (either _ _ t)
 
   unsupported : (o : ℕ) → T (has ring o) → {rules : List Rule}
-      → All (λ (r : Rule). T (has ring (r .head)) → T (someHolds trues ring (map defaultConjugate (r .body)))) rules
-      → T (supported (complement n ring) (complement n trues) rules o) → ⊥
+      → All (λ (r : Rule). T (has ring (r .head)) → T (someHolds trues ring (map conjugateNumber (r .body)))) rules
+      → T (supported true (complement n ring) (complement n trues) rules o) → ⊥
   unfolding supported
   unsupported o t nothing u = u
   unsupported o t (each {a = r} {more = more} h rest) u =

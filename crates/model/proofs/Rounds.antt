@@ -106,7 +106,7 @@ module _ (p : Program) (s : ℕ) where
   unfolding trueSet trueReduct
   true-mono f f′ h =
       least-mono (judged (p .atoms)) (allRules p) (trueReduct p s f) (trueReduct p s f′)
-      (record { seed = sub-refl; allowed = sub-refl; negated = h })
+      (record { seed = sub-refl; allowed = sub-refl; negated = h; undefined = λ u. u })
 
   -- the more is true, the less is possible,
   pub possible-anti : (t t′ : Set) → Sub t t′ → Sub (possibleSet p s t′) (possibleSet p s t)
@@ -118,6 +118,7 @@ module _ (p : Program) (s : ℕ) where
         allowed = setOf-mono (judged (p .atoms)) _ _ (λ o u.
             not-T (conjugateIn (p .atoms) t o) (λ v. T-not (conjugateIn (p .atoms) t′ o) u (conjugate-mono (p .atoms) h o v)));
         negated = complement-mono (judged (p .atoms)) h;
+        undefined = λ u. u;
       })
 
   -- and the more is false.

@@ -21,7 +21,7 @@ use Rattle.model.proofs.Rounds.{increasing}
 
 -- The same with another seed.
 abbrev pub seeded : Reduct → Set → Reduct
-seeded g seed = record { seed = seed; allowed = g .allowed; negated = g .negated }
+seeded g seed = record { seed = seed; allowed = g .allowed; negated = g .negated; undefined = g .undefined }
 
 -- Those below n that are in one of two sets.
 unfoldable pub joined : ℕ → Set → Set → Set

@@ -6,6 +6,7 @@ use mathlib.Core.List.{List, [], _∷_}
 use Prim.Native.Nat.{ℕ}
 use lib.Dec.{eqb}
 use Rattle.literals.specs.Numbering.{judged}
+use Rattle.literals.specs.BodyLiterals.{bodyLiteral}
 use Rattle.papers.specs.Program.{Program}
 use Rattle.dual.specs.Table.{Field, literal, fold}
 use Rattle.papers.specs.Tests.{_and_, _or_}
@@ -21,10 +22,10 @@ listedBy [] k = []
 listedBy (literal o folds ∷ more) k = listedBy more k
 listedBy (fold j conjugates ∷ more) k = let rest = listedBy more k in cond (eqb j k) conjugates rest
 
--- "A listed literal that holds (x from T(j), not(x) from the set itself)."
+-- "A listed literal that holds (x from T(j), not(x) from the set itself)." A listed u never does.
 unfoldable pub someHolds : Set → Set → List ℕ → Bool
 someHolds trues set [] = false
-someHolds trues set (l ∷ more) = literalHolds trues set l or someHolds trues set more
+someHolds trues set (l ∷ more) = literalHolds false trues set (bodyLiteral l) or someHolds trues set more
 
 -- "Each of whose folds" has one.
 unfoldable pub foldsHold : List Field → Set → Set → List ℕ → Bool

@@ -25,17 +25,19 @@ unfoldable pub sameInterpretation : Interpretation → Interpretation → Bool
 sameInterpretation i j = sameSet (i .trues) (j .trues) and sameSet (i .falses) (j .falses)
 
 module _ (p : Program) (s : ℕ) where
-  -- "The true abducible literals and every head whose body has its objective literals in T(j+1) and its not(o) with o in F(j)."
+  -- "The true abducible literals and every head whose body has its objective literals in T(j+1) and its not(o) with o in F(j)." Card 5: u "never
+  -- holds".
   unfoldable pub trueReduct : Set → Reduct
-  trueReduct falses = record { seed = trueAbducibles p s; allowed = full (judged (p .atoms)); negated = falses }
+  trueReduct falses = record { seed = trueAbducibles p s; allowed = full (judged (p .atoms)); negated = falses; undefined = false }
 
   -- "Each objective literal o whose conjugate is not in T(j) and which is a true or undefined abducible literal, or heads a rule whose
-  -- objective literals are in P(j+1) and whose not(g) have g outside T(j)."
+  -- objective literals are in P(j+1) and whose not(g) have g outside T(j)." Card 5: u "never fails": "in P it blocks no rule".
   unfoldable pub possibleReduct : Set → Reduct
   possibleReduct trues = record {
     seed = possibleAbducibles p s;
     allowed = setOf (judged (p .atoms)) (λ o. not (conjugateIn (p .atoms) trues o));
     negated = complement (judged (p .atoms)) trues;
+    undefined = true;
   }
 
   -- "T(j+1) is the least set holding" these, by F(j).

@@ -2,10 +2,13 @@
 ghost use mathlib.Core.Path.{_≡_};
 ghost use Prim.Native.Nat.{_+_, _<_};
 ghost use lib.ListN.{length};
+ghost use Rattle.literals.specs.BodyLiterals.{bodyLiteral, bodyNumber};
 ghost use Rattle.papers.specs.Field.{numberIn};
 use literals::Atom;
 use literals::Literal;
 use literals::Objective;
+use literals::bodies::BodyLiteral;
+use literals::bodies::body_literal;
 
 // A byte as a number, with its bound.
 fn wide(b: u8) -> usize
@@ -40,10 +43,18 @@ pub fn objective_at(bytes: &[u8], place: usize) -> Objective
     Objective(number_at(bytes, place))
 }
 
-// A literal, of a body or a query.
+// A literal of a query.
 pub fn literal_at(bytes: &[u8], place: usize) -> Literal
     requires { ⌜ place + 1 < length (now bytes) ⌝ }
     ensures { λ r. ⌜ (r .0 ≡ numberIn (now (bytes .entry)) place) × (r .0 < 65536) ⌝ }
 {
     Literal(number_at(bytes, place))
+}
+
+// A literal of a body: a number or u.
+pub fn body_literal_at(bytes: &[u8], place: usize) -> BodyLiteral
+    requires { ⌜ place + 1 < length (now bytes) ⌝ }
+    ensures { λ r. ⌜ (r ≡ bodyLiteral (numberIn (now (bytes .entry)) place)) × (bodyNumber r < 65536) ⌝ }
+{
+    body_literal(number_at(bytes, place))
 }

@@ -17,7 +17,7 @@ use Rattle.papers.specs.Content.{editionFault, atomsFault, abduciblesFau
 use Rattle.papers.specs.Reading.{Run, readEdition, readAtoms, readAbducibles, firstRule, readRun, readEnd, ruleOf, programOf}
 use Rattle.papers.specs.Reading.{readRules, readFile, readSheet}
 use Rattle.papers.specs.Encoding.{encodeNumbers, encodeField, encodeRun, ruleNumbers, encodeFile, encodeSheet}
-use Rattle.papers.specs.Valid.{ValidBody, Valid}
+use Rattle.papers.specs.Valid.{ValidQuery, Valid}
 use Rattle.papers.specs.Answers.{integrityPlace, endPlace}
 use Rattle.papers.proofs.Checks.{checked, passed, through}
 use Rattle.papers.proofs.FieldLaws.{Whole, field-tells, allowed-even}
@@ -200,7 +200,7 @@ accepted-encoded bytes p b e =
 
 pub record SheetTells (n : ℕ) (bytes : List ℕ) (q : Query) : Type 0 where
   pub query : Holds 0x06 0 bytes q
-  pub fault : literalsFault n q ≡ 0
+  pub fault : literalsFault false n q ≡ 0
   pub end : Ends (3 + 2 * length q) bytes
 
 pub sheet-tells : (n : ℕ) (bytes : List ℕ) (q : Query) → readSheet n bytes ≡ accepted q → SheetTells n bytes q
@@ -208,7 +208,7 @@ unfolding readSheet
 sheet-tells n bytes q e =
     let f = through (readField Sheet 0x06 false 0 bytes) _ e in
     let field = field-tells Sheet 0x06 false 0 bytes (f .value) (f .first) in
-    let p = passed (literalsFault n (numbers (f .value))) Sheet 0 _ (f .after) in
+    let p = passed (literalsFault false n (numbers (f .value))) Sheet 0 _ (f .after) in
     let r = through (readEnd Sheet (3 + length (f .value)) bytes) _ (p .1) in
     let is : numbers (f .value) ≡ q = cc in
     let l : 2 * length (numbers (f .value)) ≡ length (f .value) = length-numbers (f .value) (allowed-even 0x06 _ (omega arith) (field .allowed)) in
@@ -219,7 +219,7 @@ sheet-tells n bytes q e =
     } in
     rw is at whole
 
-pub sheet-accepted-valid : (n : ℕ) (bytes : List ℕ) (q : Query) → readSheet n bytes ≡ accepted q → ValidBody n q
+pub sheet-accepted-valid : (n : ℕ) (bytes : List ℕ) (q : Query) → readSheet n bytes ≡ accepted q → ValidQuery n q
 unfolding fewest most
 sheet-accepted-valid n bytes q e =
     let t = sheet-tells n bytes q e in

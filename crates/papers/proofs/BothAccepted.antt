@@ -9,7 +9,7 @@ use Rattle.papers.specs.declared.Contents.{Contents}
 use Rattle.papers.specs.declared.FileRead.the-variants as file
 use Rattle.papers.specs.declared.PapersRead.the-variants as papers
 use Rattle.papers.specs.Program.{Program, Query}
-use Rattle.papers.specs.Valid.{ValidBody}
+use Rattle.papers.specs.Valid.{ValidQuery}
 use Rattle.papers.specs.Field.{numbers}
 use Rattle.papers.specs.Outcome.{accepted}
 use Rattle.papers.specs.Reading.{Papers, readFile, programIn, readSheet, readPapers}
@@ -25,7 +25,7 @@ pub record BothTold (bytes sheet : List ℕ) (contents : Contents) (literals : �
   pub query : Query
   pub is : readPapers bytes sheet ≡ accepted (record { program = programIn bytes; query = query })
   pub answer : fileAnswer (readFile bytes) ≡ file.Accepted contents
-  pub valid : ValidBody ((programIn bytes) .atoms) query
+  pub valid : ValidQuery ((programIn bytes) .atoms) query
   pub within : 3 + 2 * literals ≤ length sheet
   pub written : Bytes sheet → numbers (take (2 * literals) (drop 3 sheet)) ≡ query
 

@@ -15,7 +15,7 @@ use Rattle.papers.specs.Outcome.{accepted}
 use Rattle.papers.specs.Field.{sizeOf, contentOf, fewest, most, lengthAllowed, fieldFault, readField}
 use Rattle.papers.specs.Reading.{runFrom, readEdition, readAtoms, readAbducibles, firstRule, readRun, readEnd, readRules, readFile, readSheet}
 use Rattle.papers.specs.Encoding.{encodeNumbers, encodeField, encodeRun, ruleNumbers, encodeFile, encodeSheet}
-use Rattle.papers.specs.Valid.{All, none, each, Rising, ValidBody, Valid}
+use Rattle.papers.specs.Valid.{All, none, each, Rising, ValidQuery, Valid}
 use Rattle.papers.specs.Answers.{fieldsLength}
 use Rattle.papers.proofs.NumberLaws.{numbers-encoded, length-encoded}
 use Rattle.papers.proofs.RunLaws.{GoodContent}
@@ -166,7 +166,7 @@ encoded-accepted p v =
       rules-back n abducibles (v .rules),
     )
 
-pub sheet-encoded-accepted : (n : ℕ) (q : Query) → ValidBody n q → readSheet n (encodeSheet q) ≡ accepted q
+pub sheet-encoded-accepted : (n : ℕ) (q : Query) → ValidQuery n q → readSheet n (encodeSheet q) ≡ accepted q
 unfolding readSheet fewest most
 sheet-encoded-accepted n q v =
     let bytes = encodeSheet q in

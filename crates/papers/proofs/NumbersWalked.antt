@@ -1,16 +1,15 @@
 -- The numbers of a content, one by one, as a loop meets them; and one turn of each content test.
 -- Assumes nothing.
 use mathlib.Core.Path.{_≡_, refl, sym, ap, _∙_}
-use mathlib.Core.Bool.{true, false}
+use mathlib.Core.Bool.{Bool, true, false}
 use mathlib.Core.List.{List, [], _∷_}
 use Prim.Native.Nat.{ℕ, suc, _+_, _*_, _/_, _-_, _≤_, _<_}
 use native.Mathlib.Omega.{arith}
 use borrow.Author.Tests.{lt-ltb, le-ltb, le-leb, lt-leb, eq-eqb, ne-eqb}
 use lib.ListN.{length, getD, take, drop, length-drop}
 use lib.Seq.{drop-cons, take-all}
-use Rattle.literals.specs.Numbering.{literalListed}
 use Rattle.papers.specs.Field.{number, numbers}
-use Rattle.papers.specs.Content.{abduciblesFault, literalsFault, isAmong, ruleFault}
+use Rattle.papers.specs.Content.{abduciblesFault, literalAllowed, literalsFault, isAmong, ruleFault}
 
 -- A part to the end.
 pub to-end : (start : ℕ) (l : List ℕ) → take (length l - start) (drop start l) ≡ drop start l
@@ -45,9 +44,9 @@ module _ (content : List ℕ) (i : ℕ) where
   read-number h e = next-number h ∙ ap (λ (x : ℕ). x ∷ numbers (drop (2 * (i + 1)) content)) (sym e)
 
   module _ (n : ℕ) where
-    pub literals-done : length content / 2 ≤ i → literalsFault n (numbers (drop (2 * i) content)) ≡ 0
+    pub literals-done : (inBody : Bool) → length content / 2 ≤ i → literalsFault inBody n (numbers (drop (2 * i) content)) ≡ 0
     unfolding literalsFault
-    literals-done h = rw (no-number h)
+    literals-done inBody h = rw (no-number h)
 
     pub abducibles-done : (least : ℕ) → length content / 2 ≤ i → abduciblesFault n least (numbers (drop (2 * i) content)) ≡ 0
     unfolding abduciblesFault
@@ -62,13 +61,14 @@ module _ (content : List ℕ) (i : ℕ) where
       one : numbers (drop (2 * i) content) ≡ l ∷ numbers (drop (2 * (i + 1)) content)
       one = read-number here is
 
-      pub literals-stop : literalListed n l ≡ false → literalsFault n (numbers (drop (2 * i) content)) ≡ 6
+      pub literals-stop : (inBody : Bool) → literalAllowed inBody n l ≡ false → literalsFault inBody n (numbers (drop (2 * i) content)) ≡ 6
       unfolding literalsFault
-      literals-stop h = rw (one, h)
+      literals-stop inBody h = rw (one, h)
 
-      pub literals-next : literalListed n l ≡ true → literalsFault n (numbers (drop (2 * i) content)) ≡ literalsFault n (numbers (drop (2 * (i + 1)) content))
+      pub literals-next : (inBody : Bool) → literalAllowed inBody n l ≡ true
+          → literalsFault inBody n (numbers (drop (2 * i) content)) ≡ literalsFault inBody n (numbers (drop (2 * (i + 1)) content))
       unfolding literalsFault
-      literals-next h = rw (one, h)
+      literals-next inBody h = rw (one, h)
 
       pub abducibles-unlisted : (least : ℕ) → n ≤ l → abduciblesFault n least (numbers (drop (2 * i) content)) ≡ 6
       unfolding abduciblesFault
@@ -104,7 +104,8 @@ module _ (n : ℕ) (abducibles content : List ℕ) (whole : 1 < length content) 
   unfolding ruleFault
   rule-fixed h a = rw (headed, lt-ltb head (2 * n) h, a)
 
-  pub rule-body : head < 2 * n → isAmong abducibles (head / 2) ≡ false → ruleFault n abducibles (numbers content) ≡ literalsFault n (numbers (drop 2 content))
+  pub rule-body : head < 2 * n → isAmong abducibles (head / 2) ≡ false
+      → ruleFault n abducibles (numbers content) ≡ literalsFault true n (numbers (drop 2 content))
   unfolding ruleFault
   rule-body h a = rw (headed, lt-ltb head (2 * n) h, a)
 

@@ -133,7 +133,7 @@ module _ (bytes : List ℕ) where
   placed-sheet n =
       placed-then Sheet bytes (readField Sheet 0x06 false 0 bytes) _ (placed-field Sheet 0x06 false 0 bytes (omega arith))
       (λ content e.
-      placed-passing Sheet bytes (literalsFault n (numbers content)) 0
+      placed-passing Sheet bytes (literalsFault false n (numbers content)) 0
       (andThen (readEnd Sheet (3 + length content) bytes) (λ end. accepted (numbers content))) (omega arith)
       (placed-then Sheet bytes (readEnd Sheet (3 + length content) bytes) _
       (placed-end Sheet (3 + length content) bytes (let w = field-tells Sheet 0x06 false 0 bytes content e .within in omega arith))

@@ -9,7 +9,7 @@ use Rattle.papers.specs.Program.{Rule, Program, Query}
 use Rattle.papers.specs.Outcome.{accepted}
 use Rattle.papers.specs.Reading.{readFile, readSheet}
 use Rattle.papers.specs.Encoding.{encodeField, encodeRun, ruleNumbers, encodeFile, encodeSheet}
-use Rattle.papers.specs.Valid.{All, none, each, ValidBody, ValidRule, Valid}
+use Rattle.papers.specs.Valid.{All, none, each, ValidQuery, ValidBody, ValidRule, Valid}
 use Rattle.papers.specs.Answers.{fieldsLength, endPlace}
 use Rattle.papers.proofs.NumberLaws.{Bytes, length-encoded}
 use Rattle.papers.proofs.Lists.{all-map, all-each}
@@ -59,7 +59,7 @@ file-bound p v =
     rw length-file (omega arith)
 
 -- 35 bytes for 06 and 3 for 7F.
-pub sheet-bound : (n : ℕ) (query : Query) → ValidBody n query → length (encodeSheet query) ≤ 38
+pub sheet-bound : (n : ℕ) (query : Query) → ValidQuery n query → length (encodeSheet query) ≤ 38
 sheet-bound n query v = rw length-sheet (omega arith)
 
 -- ---- accepted papers

@@ -71,7 +71,7 @@ module _ (bytes : List ℕ) where
 -- ---- the sheet
 
 module _ (n : ℕ) (bytes content : List ℕ) (read : readField Sheet 0x06 false 0 bytes ≡ accepted content) {fault : ℕ}
-    (is : fault ≡ literalsFault n (numbers content)) where
+    (is : fault ≡ literalsFault false n (numbers content)) where
   pub sheet-fault : (fault ≡ 0 → ⊥) → number.Refused (refusal fault Sheet 0) ≡ countAnswer (readSheet n bytes)
   unfolding readSheet
   sheet-fault h = rw (read, ← is, passing-refuses fault Sheet 0 _ h)

@@ -1,6 +1,7 @@
 -- What has to unfold for a paper to be computed: a theorem says `unfolding encoding` or `unfolding reading`.
+use Rattle.literals.specs.BodyLiterals.{bodyLiteral, bodyListed}
 use Rattle.papers.specs.Field.{numbers, sizeOf, contentOf, fewest, most, lengthAllowed, fieldFault, readField}
-use Rattle.papers.specs.Content.{editionFault, atomsFault, abduciblesFault, literalsFault, isAmong, ruleFault, bodyFault}
+use Rattle.papers.specs.Content.{editionFault, atomsFault, abduciblesFault, literalAllowed, literalsFault, isAmong, ruleFault, bodyFault}
 use Rattle.papers.specs.Reading.{readEdition, readAtoms, readAbducibles, readRun, readEnd, ruleOf, readRules, readFile, readSheet, readPapers}
 use Rattle.papers.specs.Encoding.{encodeNumbers, encodeField, encodeRun, encodeFile, encodeSheet}
 
@@ -16,7 +17,7 @@ field = tt
 
 -- the tests of its content,
 unfoldable content : Unit {0}
-unfolding editionFault atomsFault abduciblesFault literalsFault isAmong ruleFault bodyFault
+unfolding bodyLiteral bodyListed editionFault atomsFault abduciblesFault literalAllowed literalsFault isAmong ruleFault bodyFault
 content = tt
 
 -- and the readers.

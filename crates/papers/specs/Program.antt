@@ -4,7 +4,7 @@ use Prim.Native.Nat.{ℕ}
 use lib.ListN.{getD}
 use Rattle.literals.specs.Numbering.{falsum}
 
--- A rule: its head, an objective literal, and its body literals.
+-- A rule: its head, an objective literal, and its body literals, by the numbers that stand in the file (`bodyLiteral` says what each is).
 pub record Rule : Type 0 where
   pub head : ℕ
   pub body : List ℕ

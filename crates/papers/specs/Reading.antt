@@ -105,7 +105,7 @@ programIn bytes = accepted-in (readFile bytes) where
 unfoldable pub readSheet : ℕ → List ℕ → Outcome Query
 readSheet n bytes =
     andThen (readField Sheet 0x06 false 0 bytes) (λ content.
-    passing (literalsFault n (numbers content)) Sheet 0
+    passing (literalsFault false n (numbers content)) Sheet 0
     (andThen (readEnd Sheet (3 + length content) bytes) (λ end.
     accepted (numbers content))))
 

@@ -1,6 +1,7 @@
 -- The programs and queries that document 01 allows: all its limits.
 use mathlib.Core.Path.{_≡_}
 use mathlib.Core.Bool.{false}
+use mathlib.Core.Logic.{_⊎_}
 use mathlib.Core.List.{List, [], _∷_}
 use Prim.Native.Nat.{ℕ, _+_, _*_, _≤_, _<_}
 use lib.ListN.{length}
@@ -18,10 +19,21 @@ pub data Rising : ℕ → List ℕ → Type 0 where
   none : {least : ℕ} → Rising least []
   next : {least a : ℕ} {more : List ℕ} → least ≤ a → Rising (a + 1) more → Rising least (a ∷ more)
 
--- A body or a query: 0 to 16 literals, each below 4n.
-pub record ValidBody (n : ℕ) (body : List ℕ) : Type 0 where
-  pub few : length body ≤ 16
-  pub listed : All (_< 4 * n) body
+-- 0 to 16 literals, each one that may stand there.
+pub record UpTo16 (May : ℕ → Type 0) (literals : List ℕ) : Type 0 where
+  pub few : length literals ≤ 16
+  pub listed : All May literals
+
+-- A query: each below 4n.
+abbrev pub ValidQuery : ℕ → List ℕ → Type 0
+ValidQuery n = UpTo16 (_< 4 * n)
+
+-- Card 5: in a body each is below 4n, or FFFF.
+abbrev pub InBody : ℕ → ℕ → Type 0
+InBody n l = (l < 4 * n) ⊎ (l ≡ 0xFFFF)
+
+abbrev pub ValidBody : ℕ → List ℕ → Type 0
+ValidBody n = UpTo16 (InBody n)
 
 -- A rule: a head below falsum, 2n, that is no abducible or its negation, and a body.
 pub record ValidRule (n : ℕ) (abducibles : List ℕ) (r : Rule) : Type 0 where

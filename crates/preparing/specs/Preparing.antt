@@ -6,7 +6,7 @@ use lib.ListN.{length}
 use Rattle.literals.specs.Numbering.{judged}
 use Rattle.papers.specs.declared.Contents.{Contents}
 use Rattle.papers.specs.Program.{Program, Query, allRules}
-use Rattle.papers.specs.Valid.{ValidBody}
+use Rattle.papers.specs.Valid.{ValidQuery}
 use Rattle.papers.specs.Reading.{programIn}
 use Rattle.papers.specs.Field.{numbers}
 use Rattle.papers.specs.Places.{Walked}
@@ -19,7 +19,7 @@ use Rattle.preparing.specs.declared.Counts.{Counts}
 pub record PapersStand (file : List ℕ) (contents : Contents) (places dual query : List ℕ) : Type 0 where
   pub walked : Walked file contents places
   pub starts : DualStarts (programIn file) dual
-  pub asked : ValidBody ((programIn file) .atoms) (numbers query)
+  pub asked : ValidQuery ((programIn file) .atoms) (numbers query)
 
 -- Arrays in which the numbers of any such papers find room.
 pub record Room (rules rule-visits entries entry-visits asked : List ℕ) : Type 0 where

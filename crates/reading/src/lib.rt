@@ -60,7 +60,7 @@ fn read_sheet(sheet: &[u8], atoms: u16) -> NumberRead
         };
         return NumberRead::Refused(refusal);
     };
-    let fault = literals_fault(&sheet[start..end], atoms);
+    let fault = literals_fault(&sheet[start..end], atoms, false);
     if fault != 0 {
         return NumberRead::Refused(Refusal {
             number: fault,

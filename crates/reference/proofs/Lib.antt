@@ -14,5 +14,7 @@ pub mod Contradictions
 pub mod FourForms
 -- Rules typed as text.
 pub mod TypedTexts
+-- The constant u.
+pub mod Undefined
 -- The table of the theorems.
 pub mod ReferenceCalls

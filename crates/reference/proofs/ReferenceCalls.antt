@@ -4,17 +4,18 @@ use mathlib.Core.Path.{_≡_}
 use mathlib.Core.Bool.{true, false}
 use mathlib.Core.List.{[], _∷_, map}
 use lib.ListN.{length, getD}
-use Rattle.papers.specs.Outcome.{accepted}
+use Rattle.papers.specs.declared.Paper.the-variants.{File, Sheet}
+use Rattle.papers.specs.Outcome.{accepted, refused, refusal}
 use Rattle.papers.specs.Told.{tells, refusedBy}
-use Rattle.papers.specs.Reading.{readFile}
-use Rattle.papers.specs.Encoding.{encodeFile}
+use Rattle.papers.specs.Reading.{readFile, readSheet}
+use Rattle.papers.specs.Encoding.{encodeFile, encodeSheet}
 use Rattle.dual.specs.Table.{dual}
-use Rattle.dual.specs.TableEncoding.{encodeDual}
+use Rattle.dual.specs.TableEncoding.{encodeDual, readFields}
 use Rattle.literals.specs.declared.forms.Form.the-variants as form
 use Rattle.literals.specs.declared.forms.FormOf.the-variants.{Is, Nothing}
 use Rattle.literals.specs.Section21.{conjE}
 use Rattle.literals.specs.Numbering.{falsum, formOf, explicitConjugate, defaultConjugate}
-use Rattle.model.specs.Model.{modelBytes, rounds, explains}
+use Rattle.model.specs.Model.{model, modelBytes, rounds, explains}
 use Rattle.steps.specs.Explanations.{stop}
 use Rattle.steps.specs.Continuing.{fresh, continue}
 use Rattle.held.specs.Masks.{masks}
@@ -28,6 +29,7 @@ use Rattle.text.specs.Lines.{textRefusal}
 use Rattle.text.specs.Importing.{importText}
 use Rattle.reference.specs.Programs.{example21, example21Dual, example31, contradiction, contradictionAllowed, queryD, allowed}
 use Rattle.reference.specs.Programs.{example32, figureP0, figureP3, figureP4, figureQ8, figureQ11}
+use Rattle.reference.specs.Programs.{u, unsettled, unsettledDual, selfDenied, besidesFalse, deniedByU, oneRule}
 use Rattle.reference.proofs.Example21.{accepted21, length21, dual21}
 use Rattle.reference.proofs.Models.{model21, rounds21, accepted31, model31, rounds31}
 use Rattle.reference.proofs.Models.{contradiction-accepted, contradiction-falsum, contradiction-none}
@@ -40,6 +42,8 @@ use Rattle.reference.proofs.Contradictions.{allowed-unasked, allowed-op
 use Rattle.reference.specs.Texts.{typedRule, formsText, typedForms, typedTouching, typedRising, seventeenText, repeated}
 use Rattle.reference.proofs.TypedTexts.{rule-typed, rule-read, forms-typed, forms-read, touching-typed, rising-typed, above-255, leading-zero}
 use Rattle.reference.proofs.TypedTexts.{two-atoms, inside-a-line, earlier-bar, earlier-stray, seventeenth, long-body, fixed-head, overfull}
+use Rattle.reference.proofs.Undefined.{unsettled-accepted, unsettled-model, unsettled-dual, unsettled-back, self-denied-same, besides-false-model}
+use Rattle.reference.proofs.Undefined.{denied-read, denied-models, denied-found, head-refused, sheet-refused, below-u-refused}
 use Rattle.reference.proofs.FourForms.{p1, forms-of-p1, default-of-p1, explicit-of-p1, explicit-numbers}
 
 pub record Calls : Type 0 where
@@ -121,6 +125,22 @@ pub record Calls : Type 0 where
   pub long-body : importText (ascii "p0. p1 :- p0,p0,p0,p0,p0,p0,p0,p0,p0,p0,p0,p0,p0,p0,p0,p0,p0.") ≡ text.refused (textRefusal 3 4)
   pub fixed-head : importText (ascii "p2. p1. abducible p1.") ≡ text.refused (textRefusal 8 4)
   pub overfull : importText (repeated 257 (ascii "false.")) ≡ text.refused (textRefusal 9 1536)
+  -- Card 5. "The literal FFFF now means undefined .. It never holds and never fails": p :- u leaves p undefined, as p :- not p does.
+  pub unsettled-accepted : readFile (encodeFile unsettled) ≡ accepted unsettled
+  pub unsettled-model : modelBytes unsettled 0 ≡ 0 ∷ 2 ∷ 2 ∷ []
+  pub self-denied-same : model selfDenied 0 ≡ model unsettled 0
+  -- "Its default conjugate is itself", and it is read back.
+  pub unsettled-dual : encodeDual (dual unsettled) ≡ unsettledDual
+  pub unsettled-back : readFields 5 unsettledDual ≡ dual unsettled
+  -- p :- u, q with q false makes p false; falsum :- u leaves falsum undefined, so that no scenario is an explanation.
+  pub besides-false-model : modelBytes besidesFalse 0 ≡ 2 ∷ 2 ∷ 2 ∷ 2 ∷ 2 ∷ []
+  pub denied-read : Read deniedByU
+  pub denied-models : map (modelBytes (deniedByU .program)) (0 ∷ 1 ∷ 2 ∷ []) ≡ (0 ∷ 0 ∷ 0 ∷ []) ∷ (1 ∷ 2 ∷ 0 ∷ []) ∷ (2 ∷ 1 ∷ 0 ∷ []) ∷ []
+  pub denied-found : continue (problemOf deniedByU) 9 fresh (0 ∷ 0 ∷ []) ≡ whole 3 0 (0 ∷ 0 ∷ []) 2
+  -- "In heads and in the sheet FFFF is still refused as unlisted", and FFFE everywhere.
+  pub head-refused : readFile (encodeFile (oneRule u [])) ≡ refused (refusal 6 File 12)
+  pub sheet-refused : readSheet 1 (encodeSheet (u ∷ [])) ≡ refused (refusal 6 Sheet 0)
+  pub below-u-refused : readFile (encodeFile (oneRule 0 (0xFFFE ∷ []))) ≡ refused (refusal 6 File 12)
 
 pub calls : Calls
 calls = record {
@@ -182,4 +202,16 @@ calls = record {
   long-body = long-body;
   fixed-head = fixed-head;
   overfull = overfull;
+  unsettled-accepted = unsettled-accepted;
+  unsettled-model = unsettled-model;
+  self-denied-same = self-denied-same;
+  unsettled-dual = unsettled-dual;
+  unsettled-back = unsettled-back;
+  besides-false-model = besides-false-model;
+  denied-read = denied-read;
+  denied-models = denied-models;
+  denied-found = denied-found;
+  head-refused = head-refused;
+  sheet-refused = sheet-refused;
+  below-u-refused = below-u-refused;
 }

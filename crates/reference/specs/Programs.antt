@@ -123,3 +123,37 @@ figureP3 = papers (record {
   rules = rule 0 (4 ∷ []) ∷ rule 2 (9 ∷ []) ∷ rule 4 (0 ∷ []) ∷ [];
   integrity = [];
 }) (0 ∷ [])
+
+-- ---- Card 5: the constant u, FFFF in a body
+
+abbrev pub u : ℕ
+u = 0xFFFF
+
+-- p :- u.
+abbrev pub unsettled : Program
+unsettled = record { atoms = 1; abducibles = []; rules = rule 0 (u ∷ []) ∷ []; integrity = [] }
+
+-- Its dual: p by fold 0, which lists u; -p; falsum.
+abbrev pub unsettledDual : List ℕ
+unsettledDual =
+    0x08 ∷ 0 ∷ 4 ∷ 0 ∷ 0 ∷ 0 ∷ 0 ∷
+    0x09 ∷ 0 ∷ 4 ∷ 0 ∷ 0 ∷ 0xFF ∷ 0xFF ∷
+    0x08 ∷ 0 ∷ 2 ∷ 0 ∷ 1 ∷
+    0x08 ∷ 0 ∷ 2 ∷ 0 ∷ 2 ∷
+    0x7F ∷ 0 ∷ 0 ∷ []
+
+-- p :- not p.
+abbrev pub selfDenied : Program
+selfDenied = record { atoms = 1; abducibles = []; rules = rule 0 (1 ∷ []) ∷ []; integrity = [] }
+
+-- p :- u, q; nothing gives q.
+abbrev pub besidesFalse : Program
+besidesFalse = record { atoms = 2; abducibles = []; rules = rule 0 (u ∷ 4 ∷ []) ∷ []; integrity = [] }
+
+-- falsum :- u; p is abducible, and nothing is asked.
+abbrev pub deniedByU : Papers
+deniedByU = papers (record { atoms = 1; abducibles = 0 ∷ []; rules = []; integrity = (u ∷ []) ∷ [] }) []
+
+-- One atom and one rule.
+abbrev pub oneRule : ℕ → List ℕ → Program
+oneRule head body = record { atoms = 1; abducibles = []; rules = rule head body ∷ []; integrity = [] }

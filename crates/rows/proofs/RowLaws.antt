@@ -8,7 +8,8 @@ use native.Mathlib.Omega.{arith}
 use lib.Dec.{eqb}
 use lib.ListN.{length, getD, take, drop, length-append, length-map, List·getD-append}
 use lib.Seq.{getD-append-add}
-use Rattle.literals.specs.Numbering.{defaultConjugate, judged}
+use Rattle.literals.specs.Numbering.{judged}
+use Rattle.literals.specs.BodyLiterals.{conjugateNumber}
 use Rattle.papers.specs.Program.{Rule, Program, noRule, allRules, ruleAt}
 use Rattle.papers.specs.Valid.{All, none, each, Valid}
 use Rattle.papers.proofs.Lists.{at-place, past-place, getD-map-lt}
@@ -152,7 +153,7 @@ module _ (p : Program) (o : ℕ) where
         ≤ cond b (ruleLength r + rulesLength more o) (rulesLength more o)
     go true ih =
         let a = length-append (clauseOf p j) (clausesRow (map (clauseOf p) (foldsFrom (j + 1) more o))) in
-        let m = length-map ((ruleAt p j) .body) defaultConjugate in
+        let m = length-map ((ruleAt p j) .body) conjugateNumber in
         let same = ap (λ (x : Rule). length (x .body)) (at-place (allRules p) j e noRule) in
         omega arith
     go false ih = ih

@@ -4,7 +4,8 @@ use mathlib.Core.Bool.{cond}
 use mathlib.Core.List.{List, [], _∷_, _++_, map}
 use Prim.Native.Nat.{ℕ, zero, suc, _+_, _*_, _≤_, _<_}
 use lib.ListN.{length, getD, take}
-use Rattle.literals.specs.Numbering.{defaultConjugate, judged}
+use Rattle.literals.specs.Numbering.{judged}
+use Rattle.literals.specs.BodyLiterals.{conjugateNumber}
 use Rattle.papers.specs.Program.{Rule, Program, allRules, ruleAt}
 use Rattle.papers.specs.Reading.{programIn}
 use Rattle.dual.specs.Table.{foldsOf, hasEntry}
@@ -26,7 +27,7 @@ clausesRow (clause ∷ more) = 2 * length clause ∷ (clause ++ clausesRow more)
 
 -- The clause of a fold: the literals that its 09 field lists.
 abbrev pub clauseOf : Program → ℕ → List ℕ
-clauseOf p k = map defaultConjugate ((ruleAt p k) .body)
+clauseOf p k = map conjugateNumber ((ruleAt p k) .body)
 
 -- The clauses of o's entry, one for each fold. Without an entry o is backed by no rule: one clause that lists nothing, so that it never holds.
 unfoldable pub clausesOf : Program → ℕ → List (List ℕ)

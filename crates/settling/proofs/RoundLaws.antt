@@ -60,10 +60,10 @@ next-true p valid rules visits trues t f before seed after s w c =
     let j = visited-judged p valid rules visits s in
     record {
       true-in = λ base l falses h a sub.
-          let g : Reduct = record { seed = lane n l seed; allowed = full n; negated = lane n l f } in
+          let g : Reduct = record { seed = lane n l seed; allowed = full n; negated = lane n l f; undefined = false } in
           c .in-lane n j l h
           ∙ least-visited p valid rules visits s n g
-          ∙ ap (λ (set : Set). least n (allRules p) (record { seed = set; allowed = full n; negated = lane n l f }))
+          ∙ ap (λ (set : Set). least n (allRules p) (record { seed = set; allowed = full n; negated = lane n l f; undefined = false }))
           (joined-lane p base l trues falses t before seed h a w)
           ∙ true-warm p (base + l) (lane n l f) (lane n l t) (record { at = sub });
       beyond = record { at = λ o h. c .beyond n j .at o h ∙ w .beyond .at o h };

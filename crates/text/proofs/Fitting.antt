@@ -8,17 +8,18 @@ use native.Mathlib.Omega.{arith}
 use native.Mathlib.Decide.{decLt}
 use borrow.Author.Tests.{lt-ltb, le-ltb}
 use Rattle.literals.specs.Numbering.{positive, negative, literal, defaultNegation}
-use Rattle.papers.specs.Program.{Program}
+use Rattle.papers.specs.Program.{Rule, Program}
 use Rattle.papers.specs.Outcome.{check}
 use Rattle.papers.specs.Content.{atomsFault, abduciblesFault, literalsFault, isAmong, ruleFault, bodyFault}
+use Rattle.papers.specs.Reading.{ruleOf}
 use Rattle.papers.specs.Valid.{All, Rising}
 use Rattle.papers.specs.Valid.{All.none as nothing, All.each as each, Rising.none as flat, Rising.next as above}
-use Rattle.papers.proofs.ContentLaws.{atoms-fit, abducibles-fit, literals-fit}
+use Rattle.papers.proofs.ContentLaws.{atoms-fit, abducibles-fit, body-literals-fit, plain-body}
 use Rattle.text.specs.Tokens.{isBlank, tokenSize, Tokens, token, stray, end, tokenThen, tokensFrom}
 use Rattle.text.specs.Lines.{Reading, accepted, Line, abducible, rule, integrity, also, State, fresh, declaring, declared, negated, headed, due}
 use Rattle.text.specs.Lines.{denied, negatedIn, deniedNegated, said, Step, goes, ends, bars, follow, isAtom, isMinus, isNot, isArrow, isComma}
 use Rattle.text.specs.Lines.{isStop, isAbducible, isFalse, step, linesFrom, linesOf}
-use Rattle.text.specs.Typed.{its, declaredIn, rulesIn, integrityIn, atomsOf, namedIn, larger, countOf, risingFrom, programTyped}
+use Rattle.text.specs.Typed.{its, declaredIn, rulesIn, integrityIn, atomsOf, namedIn, larger, countOf, risingFrom, programTyped, Typable}
 use Rattle.text.proofs.Readings.{refused-not, through}
 use Rattle.text.proofs.Stepping.{number-small}
 use Rattle.text.proofs.Printed.{Printable, abducible-fits, rule-fits, integrity-fits}
@@ -242,7 +243,7 @@ rules-checked n abducibles (abducible start a ∷ more) (each p ps) = rules-chec
 rules-checked n abducibles (rule start head body ∷ more) (each p ps) =
     let s = all-split (atomsOf body) (namedIn more) ps in
     let small : head < 2 * n = omega arith in
-    let e : literalsFault n body ≡ 0 = literals-fit n body (listed-literals n body (s .0)) in
+    let e : literalsFault true n body ≡ 0 = body-literals-fit n body (plain-body n (listed-literals n body (s .0))) in
     each (record { head = head; body = body; is = refl; fault = rw (lt-ltb head (2 * n) small, e) }) (rules-checked n abducibles more (s .1))
 rules-checked n abducibles (integrity start body ∷ more) h = rules-checked n abducibles more (all-split (atomsOf body) (namedIn more) h .1)
 
@@ -254,7 +255,33 @@ integrity-checked n abducibles (abducible start a ∷ more) (each p ps) = integr
 integrity-checked n abducibles (rule start head body ∷ more) (each p ps) = integrity-checked n abducibles more (all-split (atomsOf body) (namedIn more) ps .1)
 integrity-checked n abducibles (integrity start body ∷ more) h =
     let s = all-split (atomsOf body) (namedIn more) h in
-    each (literals-fit n body (listed-literals n body (s .0))) (integrity-checked n abducibles more (s .1))
+    each (body-literals-fit n body (plain-body n (listed-literals n body (s .0)))) (integrity-checked n abducibles more (s .1))
+
+-- No literal is u: neither of a typed rule,
+rules-typable : (n : ℕ) (ls : List Line) → All (_< n) (namedIn ls) → All (λ (r : Rule). All (_< 4 * n) (r .body)) (map ruleOf (map its (rulesIn ls)))
+unfolding namedIn rulesIn ruleOf
+rules-typable n [] h = nothing
+rules-typable n (abducible start a ∷ more) (each p ps) = rules-typable n more ps
+rules-typable n (rule start head body ∷ more) (each p ps) =
+    let s = all-split (atomsOf body) (namedIn more) ps in
+    each (listed-literals n body (s .0)) (rules-typable n more (s .1))
+rules-typable n (integrity start body ∷ more) h = rules-typable n more (all-split (atomsOf body) (namedIn more) h .1)
+
+-- nor of a typed integrity rule.
+integrity-typable : (n : ℕ) (ls : List Line) → All (_< n) (namedIn ls) → All (All (_< 4 * n)) (map its (integrityIn ls))
+unfolding namedIn integrityIn
+integrity-typable n [] h = nothing
+integrity-typable n (abducible start a ∷ more) (each p ps) = integrity-typable n more ps
+integrity-typable n (rule start head body ∷ more) (each p ps) = integrity-typable n more (all-split (atomsOf body) (namedIn more) ps .1)
+integrity-typable n (integrity start body ∷ more) h =
+    let s = all-split (atomsOf body) (namedIn more) h in
+    each (listed-literals n body (s .0)) (integrity-typable n more (s .1))
+
+pub typed-typable : (lines : List Line) → Typable (programTyped lines)
+unfolding programTyped
+typed-typable lines =
+    let named = namedIn lines in
+    record { rules = rules-typable (countOf named) lines (count-above named); integrity = integrity-typable (countOf named) lines (count-above named) }
 
 -- What is known of the program that a text's lines type.
 pub record TypedFits (lines : List Line) (p : Program) : Type 0 where

@@ -22,8 +22,9 @@ use Rattle.papers.proofs.RunLaws.{GoodContent}
 use Rattle.papers.proofs.Sizes.{length-field}
 use Rattle.papers.proofs.Encoded.{encoded-accepted}
 use Rattle.text.specs.Lines.{Reading, accepted, Line, linesOf}
-use Rattle.text.specs.Typed.{Placed, its, declaredIn, rulesIn, integrityIn, programTyped}
+use Rattle.text.specs.Typed.{Placed, its, declaredIn, rulesIn, integrityIn, programTyped, Typable}
 use Rattle.text.specs.Importing.{headingFault, overfullAt, checkRun, checkTyped, importText}
+use Rattle.text.proofs.Fitting.{typed-typable}
 use Rattle.text.proofs.Readings.{passed, through}
 
 -- Of a typed field only the count (9) and the length (3) can fail: its heading and its content are whole, its tag is its own.
@@ -112,3 +113,7 @@ imported text p e =
 -- "The file written is read back as exactly the rules typed, in their order, then the integrity rules in theirs."
 pub read-back : (text : List ℕ) (p : Program) → importText text ≡ accepted p → readFile (encodeFile p) ≡ file.accepted p
 read-back text p e = encoded-accepted p (imported text p e .valid)
+
+-- No body of what a text is imported as has u, so that no FFFF is written.
+pub imported-typable : (text : List ℕ) (p : Program) → importText text ≡ accepted p → Typable p
+imported-typable text p e = let i = imported text p e in rw (i .typed) (typed-typable (i .lines))

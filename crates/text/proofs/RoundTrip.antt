@@ -1,4 +1,4 @@
--- Every valid program has a text that imports as it, where its atom count is one more than the greatest atom named, or 1.
+-- Every valid program without u has a text that imports as it, where its atom count is one more than the greatest atom named, or 1.
 -- Assumes nothing.
 use mathlib.Core.Path.{_≡_, refl, sym, ap, _∙_}
 use mathlib.Core.Bool.{true, false}
@@ -18,7 +18,7 @@ use Rattle.papers.proofs.Lists.{all-map, all-each}
 use Rattle.papers.proofs.ContentLaws.{atoms-fit, abducibles-fit, length-fits, bodies-fit, rules-fit, rules-back}
 use Rattle.papers.proofs.RunLaws.{GoodContent}
 use Rattle.text.specs.Lines.{Reading, accepted, Line, abducible, rule, integrity}
-use Rattle.text.specs.Typed.{Placed, its, declaredIn, rulesIn, integrityIn, atomsOf, namedIn, countOf, risingFrom, programTyped}
+use Rattle.text.specs.Typed.{Placed, its, declaredIn, rulesIn, integrityIn, atomsOf, namedIn, countOf, risingFrom, programTyped, Typable}
 use Rattle.text.specs.Importing.{headingFault, checkRun, checkTyped, importText}
 use Rattle.text.specs.Printing.{ruleLine, linesFor, textOf}
 use Rattle.text.proofs.ReadBack.{heading-is}
@@ -179,16 +179,21 @@ all-append (each p ps) ys = each p (all-append ps ys)
 literals-small : (n : ℕ) → n ≤ 256 → {ls : List ℕ} → All (_< 4 * n) ls → All (_< 1024) ls
 literals-small n h = all-each (λ l k. let k2 : l < 4 * n = k in let g : l < 1024 = omega arith in g)
 
-printable : (p : Program) → Valid p → All Printable (linesFor p)
+all-both : {A : Type 0} {P Q : A → Type 0} {xs : List A} → All P xs → All Q xs → All (λ x. P x × Q x) xs
+all-both nothing qs = nothing
+all-both (each p ps) (each q qs) = each (p, q) (all-both ps qs)
+
+printable : (p : Program) → Valid p → Typable p → All Printable (linesFor p)
 unfolding linesFor
-printable p v =
+printable p v t =
     let n = p .atoms in
     let few = v .fewAtoms in
     all-append
     (all-map (abducible 0) (λ a h. let h2 : a < n = h in let g : a ≤ 255 = omega arith in abducible-fits g) (v .abduciblesListed))
     (all-append
-    (all-map ruleLine (λ r w. let l = w .listed in let g : r .head < 512 = omega arith in rule-fits g (literals-small n few (w .body .listed))) (v .rules))
-    (all-map (integrity 0) (λ b w. integrity-fits (literals-small n few (w .listed))) (v .integrity)))
+    (all-map ruleLine (λ r w. let l = w .0 .listed in let g : r .head < 512 = omega arith in rule-fits g (literals-small n few (w .1)))
+    (all-both (v .rules) (t .rules)))
+    (all-map (integrity 0) (λ b w. integrity-fits (literals-small n few w)) (t .integrity)))
 
 -- What a program's lines type is the program, where its atom count is right.
 pub typed-for : (p : Program) → Valid p → countOf (namedIn (linesFor p)) ≡ p .atoms → programTyped (linesFor p) ≡ p
@@ -202,11 +207,11 @@ typed-for p v e = rw (
   rules-back (p .atoms) (p .abducibles) (v .rules),
 )
 
--- The round trip: the printed text of a valid program imports as it, where its atom count is one more than the greatest atom named, or 1.
-pub printed-imports : (p : Program) → Valid p → countOf (namedIn (linesFor p)) ≡ p .atoms → importText (textOf p) ≡ accepted p
+-- The round trip: the printed text of a valid program without u imports as it, where its atom count is one more than the greatest atom named, or 1.
+pub printed-imports : (p : Program) → Valid p → Typable p → countOf (namedIn (linesFor p)) ≡ p .atoms → importText (textOf p) ≡ accepted p
 unfolding importText textOf
-printed-imports p v e =
-    let read = lines-printed 0 (linesFor p) (printable p v) in
+printed-imports p v t e =
+    let read = lines-printed 0 (linesFor p) (printable p v t) in
     let found = read .found in
     let is : programTyped found ≡ p = sym (typed-bare found) ∙ ap programTyped (read .same) ∙ typed-bare (linesFor p) ∙ typed-for p v e in
     let rules : map its (rulesIn found) ≡ map ruleNumbers (p .rules) =

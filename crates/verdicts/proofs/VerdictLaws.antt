@@ -1,15 +1,17 @@
 -- The lanes that are explanations, by the models.
 -- Assumes nothing.
 use mathlib.Core.Path.{_≡_, sym, ap, ap₂, _∙_}
-use mathlib.Core.Bool.{Bool, not}
+use mathlib.Core.Bool.{Bool, false, not}
 use mathlib.Core.List.{List}
-use Prim.Native.Nat.{ℕ, _+_}
+use mathlib.Core.Logic.{inl}
+use Prim.Native.Nat.{ℕ, _+_, _≤_}
 use native.Mathlib.Omega.{arith}
 use lib.Bits.{bitAnd, bitOr}
 use lib.ListN.{getD}
 use Rattle.literals.specs.Numbering.{judged, falsum}
+use Rattle.literals.proofs.BodyLaws.{listed-below}
 use Rattle.papers.specs.Program.{Program, Query}
-use Rattle.papers.specs.Valid.{ValidBody}
+use Rattle.papers.specs.Valid.{ValidQuery}
 use Rattle.papers.proofs.Lists.{all-each}
 use Rattle.papers.proofs.TestLaws.{and-assoc}
 use Rattle.papers.specs.Tests.{_and_, _or_}
@@ -46,24 +48,25 @@ explained-word n o query trues falses other holding both consistent e q k b m c 
       lane-and l holding consistent
       ∙ ap₂ _and_
       (b .in-lane (judged n) q l
-      ∙ ap (λ (x : Bool). x and bodyHolds (lane (judged n) l trues) (lane (judged n) l falses) query)
+      ∙ ap (λ (x : Bool). x and bodyHolds false (lane (judged n) l trues) (lane (judged n) l falses) query)
       (lane-and l other (getD falses o 0) ∙ ap₂ _and_ (k .at l h ∙ ap not (there l trues)) (there l falses)))
       (c .at l h ∙ ap not (m .at l))
-      ∙ and-assoc _ (bodyHolds (lane (judged n) l trues) (lane (judged n) l falses) query) _;
+      ∙ and-assoc _ (bodyHolds false (lane (judged n) l trues) (lane (judged n) l falses) query) _;
 }
   where
     there : (l : ℕ) (words : List ℕ) → inLane l (getD words o 0) ≡ has (lane (judged n) l words) (falsum n)
     there l words = rw e (sym (has-lane (judged n) l (falsum n) words (omega arith)))
 
 -- A query's literals are among the judged ones.
-pub query-listed : {n : ℕ} {q : Query} → ValidBody n q → Literals (judged n) q
-query-listed v = record { below = all-each (λ l b. omega arith) (v .listed) }
+pub query-listed : (n : ℕ) {q : Query} → ValidQuery n q → Literals (judged n) q
+query-listed n v = record { below = all-each (λ l h. listed-below n l (inl h)) (v .listed) }
 
 module _ (p : Program) (base : ℕ) (trues falses counts : List ℕ) (s : SettledLanes p base trues falses counts) where
-  pub verdict-lanes : (q : Query) (w : ℕ) → ValidBody (p .atoms) q → ExplainedWord (p .atoms) q trues falses w → VerdictLanes p q base w counts
-  verdict-lanes q w v e = record {
+  pub verdict-lanes : p .atoms ≤ 256 → (q : Query) (w : ℕ) → ValidQuery (p .atoms) q → ExplainedWord (p .atoms) q trues falses w
+      → VerdictLanes p q base w counts
+  verdict-lanes few q w v e = record {
     explained = λ l h.
         e .at l h
-        ∙ rw (s .true-in l h, s .false-in l h) (sym (explains-is p (base + l) (query-listed v .below)));
+        ∙ rw (s .true-in l h, s .false-in l h) (sym (explains-is p (base + l) few (v .listed)));
     counted = s .counted;
   }

@@ -1,9 +1,13 @@
 //! Papers of programs and queries as document 01 writes them in its reference
 //! calls. Their bytes are put here, and so come from no finder.
 
+/// What the constant u of Card 5 of document 02 is written as.
+const UNDEFINED: u16 = 0xFFFF;
+
 /// The file of the program with these atoms, numbered from 0 in order, of which
 /// these are abducible. Rules are parted by semicolons; the head of an
-/// integrity rule is falsum.
+/// integrity rule is falsum. In a body the word undefined is the constant u,
+/// unless an atom has that name.
 pub fn file(atoms: &str, abducibles: &str, rules: &str) -> Vec<u8> {
     let atoms = Atoms::of(atoms);
     let faults = abducibles.split_whitespace();
@@ -17,7 +21,7 @@ pub fn file(atoms: &str, abducibles: &str, rules: &str) -> Vec<u8> {
     let rules = rules.split(';').map(str::trim);
     for rule in rules.filter(|rule| !rule.is_empty()) {
         let (head, body) = rule.split_once(":-").unwrap_or((rule, ""));
-        let body = atoms.literals(body);
+        let body = atoms.body(body);
         match head.trim() {
             "falsum" => integrity_rules.extend(field(0x05, &body)),
             head => file.extend(field(0x04, &[vec![atoms.objective(head)], body].concat())),
@@ -42,8 +46,12 @@ impl<'t> Atoms<'t> {
         Atoms(names.split_whitespace().collect())
     }
 
+    fn position(&self, name: &str) -> Option<usize> {
+        self.0.iter().position(|other| *other == name)
+    }
+
     fn number(&self, name: &str) -> u16 {
-        let number = self.0.iter().position(|other| *other == name);
+        let number = self.position(name);
         number.unwrap_or_else(|| panic!("`{name}` is no atom")) as u16
     }
 
@@ -64,12 +72,31 @@ impl<'t> Atoms<'t> {
     }
 
     fn literals(&self, text: &str) -> Vec<u16> {
-        if text.trim().is_empty() {
-            return vec![];
-        }
-        let literals = text.split(',').map(str::trim);
+        let literals = parted(text).into_iter();
         literals.map(|literal| self.literal(literal)).collect()
     }
+
+    /// A literal or the constant u.
+    fn body_literal(&self, text: &str) -> u16 {
+        if text == "undefined" && self.position(text).is_none() {
+            UNDEFINED
+        } else {
+            self.literal(text)
+        }
+    }
+
+    fn body(&self, text: &str) -> Vec<u16> {
+        let literals = parted(text).into_iter();
+        literals.map(|literal| self.body_literal(literal)).collect()
+    }
+}
+
+/// What the commas part.
+fn parted(text: &str) -> Vec<&str> {
+    if text.trim().is_empty() {
+        return vec![];
+    }
+    text.split(',').map(str::trim).collect()
 }
 
 fn field(tag: u8, numbers: &[u16]) -> Vec<u8> {
@@ -100,6 +127,31 @@ mod tests {
         let expected = [0x06, 0, 4, 0, 2, 0, 9, 0x7F, 0, 0];
         assert_eq!(sheet(atoms, "-a, not c"), expected);
         assert_eq!(sheet(atoms, ""), [0x06, 0, 0, 0x7F, 0, 0]);
+    }
+
+    #[test]
+    fn undefined_is_the_constant_in_a_body_unless_it_is_an_atom() {
+        let expected = [
+            &[0x01, 0, 1, 1, 0x02, 0, 2, 0, 1, 0x03, 0, 0][..],
+            &[0x04, 0, 8, 0, 0, 0xFF, 0xFF, 0, 1, 0xFF, 0xFF],
+            &[0x05, 0, 2, 0xFF, 0xFF],
+            &[0x7F, 0, 0],
+        ];
+        let rules = "a :- undefined, not a, undefined; falsum :- undefined";
+        assert_eq!(file("a", "", rules), expected.concat());
+        let expected = [
+            &[0x01, 0, 1, 1, 0x02, 0, 2, 0, 1, 0x03, 0, 0][..],
+            &[0x04, 0, 4, 0, 0, 0, 0],
+            &[0x7F, 0, 0],
+        ];
+        let found = file("undefined", "", "undefined :- undefined");
+        assert_eq!(found, expected.concat());
+    }
+
+    #[test]
+    #[should_panic(expected = "`undefined` is no atom")]
+    fn a_query_has_no_constant() {
+        sheet("a", "undefined");
     }
 
     #[test]

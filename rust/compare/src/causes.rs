@@ -1,10 +1,10 @@
 //! Programs of few atoms in which much follows: rings of rules, chains through
-//! not, conjugates, and bodies that lead back to abducibles.
+//! not, conjugates, and bodies that lead back to abducibles or have FFFF.
 
-use plain::{Atom, Literal, ObjectiveLiteral, Program, Query, Rule};
+use plain::{Atom, BodyLiteral, Form, Literal, ObjectiveLiteral, Program, Query, Rule};
 use random::Random;
 
-use crate::programs::{fails, heads, holds, some_atoms};
+use crate::programs::{add_undefined, body_of, fails, heads, holds, some_atoms};
 
 /// What makes a program with so many abducibles and other atoms.
 pub type Causes = fn(&mut Random, usize, usize) -> Program;
@@ -53,6 +53,10 @@ fn program(random: &mut Random, abducibles: usize, others: usize, can_contradict
         let body = body(random, &program, 2);
         program.integrity_bodies.push(body);
     }
+    // A third of them are left without, as in these more explains.
+    if !random.one_in(3) {
+        add_undefined(random, &mut program, 3);
+    }
     program
 }
 
@@ -65,7 +69,7 @@ fn one_of_each_pair(random: &mut Random, heads: &[ObjectiveLiteral]) -> Vec<Obje
 /// A query, most often for heads of rules.
 pub fn query_of_heads(random: &mut Random, program: &Program) -> Query {
     let literals = if program.rules.is_empty() || random.one_in(6) {
-        body(random, program, 2)
+        literals(random, program, 2)
     } else {
         (0..random.pick(&[1, 1, 1, 2]))
             .map(|_| {
@@ -77,9 +81,13 @@ pub fn query_of_heads(random: &mut Random, program: &Program) -> Query {
     Query { literals }
 }
 
+fn body(random: &mut Random, program: &Program, most: usize) -> Vec<BodyLiteral> {
+    body_of(literals(random, program, most))
+}
+
 /// At most so many literals, less often none. About every other one is of an
 /// abducible atom, where there are any.
-fn body(random: &mut Random, program: &Program, most: usize) -> Vec<Literal> {
+fn literals(random: &mut Random, program: &Program, most: usize) -> Vec<Literal> {
     let least = usize::from(!random.one_in(5));
     (0..random.between(least, most))
         .map(|_| {
@@ -145,16 +153,18 @@ fn add_conjugates(random: &mut Random, program: &mut Program, heads: &[Objective
 }
 
 fn either(random: &mut Random, objective: ObjectiveLiteral) -> Literal {
-    if random.one_in(2) {
-        holds(objective)
+    let form = if random.one_in(2) {
+        Form::Objective(objective)
     } else {
-        fails(objective)
-    }
+        Form::Not(objective)
+    };
+    form.literal()
 }
 
 #[cfg(test)]
 mod tests {
     use super::*;
+    use crate::programs::{has_undefined, mentions_undefined};
     use plain::{encode_file, encode_sheet, model, read_papers, scenario_count};
     use random::seed::seed;
 
@@ -171,6 +181,26 @@ mod tests {
             let (file, sheet) = (encode_file(&program), encode_sheet(&query));
             assert_eq!(read_papers(&file, &sheet), Ok((program, query)));
         }
+    }
+
+    #[test]
+    fn about_one_body_in_five_has_undefined_and_a_third_of_them_have_none() {
+        let mut random = Random::new(seed(32));
+        let [mut bodies, mut with_undefined, mut without] = [0; 3];
+        for _ in 0..1_000 {
+            let (abducibles, others) = (random.below(4), random.between(1, 5));
+            let program = causes(&mut random, abducibles, others);
+            let folds = program.folds();
+            with_undefined += folds.filter(|(_, _, body)| has_undefined(body)).count();
+            bodies += program.folds().count();
+            without += usize::from(!mentions_undefined(&program));
+        }
+        let about_one_in_five = bodies / 6..bodies / 4;
+        assert!(
+            about_one_in_five.contains(&with_undefined),
+            "{with_undefined} of {bodies}"
+        );
+        assert!((300..600).contains(&without), "{without} have none");
     }
 
     /// In how many of 1,000 programs something is both true and false.

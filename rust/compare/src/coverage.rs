@@ -6,7 +6,7 @@ use std::fmt;
 use plain::field::{
     Tag, MOST_ABDUCIBLES, MOST_ATOMS, MOST_INTEGRITY_RULES, MOST_LITERALS, MOST_RULES,
 };
-use plain::{Literal, Number, Paper, Program, Query, Refusal};
+use plain::{Number, Paper, Program, Query, Refusal};
 
 use crate::tally::{Counted, LEAST};
 
@@ -111,7 +111,7 @@ const LIMITS: [(&str, Holds); 7] = [
     }),
 ];
 
-fn is_full(literals: &[Literal]) -> bool {
+fn is_full<L>(literals: &[L]) -> bool {
     literals.len() == MOST_LITERALS
 }
 

@@ -2,7 +2,7 @@
 //! numbers.
 
 use plain::field::{Tag, HEADING};
-use plain::{Atom, Program};
+use plain::{Atom, Program, UNDEFINED};
 use random::Random;
 
 use crate::fields::Fields;
@@ -26,7 +26,7 @@ impl Bounds {
 /// One way to damage a paper that is not empty.
 type Damage = fn(&mut Random, &Fields, &Bounds) -> Vec<u8>;
 
-const DAMAGES: [Damage; 17] = [
+const DAMAGES: [Damage; 18] = [
     cut,
     change_byte,
     remove_byte,
@@ -42,6 +42,7 @@ const DAMAGES: [Damage; 17] = [
     change_length_a_little,
     resize_content,
     change_number,
+    put_undefined,
     copy_number,
     swap_numbers,
 ];
@@ -223,11 +224,22 @@ fn resize_content(random: &mut Random, fields: &Fields, bounds: &Bounds) -> Vec<
 }
 
 fn change_number(random: &mut Random, fields: &Fields, bounds: &Bounds) -> Vec<u8> {
+    let number = a_number(random, bounds);
+    put_number(random, fields, bounds, number)
+}
+
+/// Puts FFFF, which only a body can have, or its neighbour, which nothing can.
+fn put_undefined(random: &mut Random, fields: &Fields, bounds: &Bounds) -> Vec<u8> {
+    let number = random.pick(&[UNDEFINED, UNDEFINED - 1]);
+    put_number(random, fields, bounds, number)
+}
+
+fn put_number(random: &mut Random, fields: &Fields, bounds: &Bounds, number: u16) -> Vec<u8> {
     let Some(at) = a_number_place(random, fields) else {
         return change_byte(random, fields, bounds);
     };
     let mut bytes = fields.bytes.to_vec();
-    put_number_at(&mut bytes, at, a_number(random, bounds));
+    put_number_at(&mut bytes, at, number);
     bytes
 }
 
@@ -273,7 +285,7 @@ fn a_number(random: &mut Random, bounds: &Bounds) -> u16 {
     bound.wrapping_sub(2).wrapping_add(random.below(4) as u16)
 }
 
-fn number_at(bytes: &[u8], at: usize) -> u16 {
+pub(crate) fn number_at(bytes: &[u8], at: usize) -> u16 {
     u16::from_be_bytes([bytes[at], bytes[at + 1]])
 }
 

@@ -20,7 +20,7 @@ impl Sums {
 }
 
 pub struct Definition {
-    held: Held,
+    pub held: Held,
     /// The minimal explanations of the search, rising.
     pub minimal: Vec<u32>,
     /// Those that the list has room for.

@@ -3,9 +3,12 @@
 
 use plain::dual::LONGEST_DUAL;
 use plain::field::{MOST_ABDUCIBLES, MOST_ATOMS, MOST_INTEGRITY_RULES, MOST_LITERALS, MOST_RULES};
-use plain::{dual, encode_dual, Dual, Entry, Form, Literal, ObjectiveLiteral, Program, Refusal};
+use plain::{
+    dual, encode_dual, BodyLiteral, Dual, Entry, Folding, Form, ObjectiveLiteral, Program, Refusal,
+};
 
 use crate::buffers::{Buffer, Buffers};
+use crate::programs::{has_undefined, mentions_undefined};
 use crate::tally::{Counted, Feature, Numbers, Tally, OF_FILE};
 
 /// An accepted file: its program and its dual.
@@ -26,7 +29,7 @@ impl Accepted {
         }
     }
 
-    fn has_rule(&self, holds: impl Fn(ObjectiveLiteral, &[Literal]) -> bool) -> bool {
+    fn has_rule(&self, holds: impl Fn(ObjectiveLiteral, &[BodyLiteral]) -> bool) -> bool {
         self.program
             .folds()
             .any(|(_, head, body)| holds(head, body))
@@ -34,10 +37,15 @@ impl Accepted {
 
     /// Whether a 09 field lists such a literal.
     fn lists(&self, is_it: impl Fn(Form) -> bool) -> bool {
-        self.has_entry(|entry| {
-            let mut listed = entry.foldings.iter().flat_map(|it| &it.conjugates);
-            listed.any(|literal| is_it(literal.form()))
+        self.has_folding(|_, folding| {
+            let mut forms = folding.conjugates.iter().filter_map(form);
+            forms.any(&is_it)
         })
+    }
+
+    /// Whether there is such a 09 field.
+    fn has_folding(&self, is_it: impl Fn(&Entry, &Folding) -> bool) -> bool {
+        self.has_entry(|entry| entry.foldings.iter().any(|folding| is_it(entry, folding)))
     }
 
     fn has_entry(&self, holds: impl Fn(&Entry) -> bool) -> bool {
@@ -75,8 +83,8 @@ const ACCEPTED: &[Feature<Accepted>] = &[
     }),
     ("an explicit negation in a body", |file| {
         file.has_rule(|_, body| {
-            let objective = |literal: &Literal| ObjectiveLiteral(literal.0 / 2);
-            body.iter().any(|literal| is_negation(objective(literal)))
+            let mut forms = body.iter().filter_map(form);
+            forms.any(|(Form::Objective(it) | Form::Not(it))| is_negation(it))
         })
     }),
     ("an atom listed", |file| {
@@ -134,7 +142,56 @@ const ACCEPTED: &[Feature<Accepted>] = &[
         file.dual_length > 32_768
     }),
     ("the longest dual", |file| file.dual_length == LONGEST_DUAL),
+    ("FFFF listed", |file| {
+        file.has_folding(|_, folding| has_undefined(&folding.conjugates))
+    }),
+    ("FFFF listed beside literals", |file| {
+        file.has_folding(|_, folding| {
+            let mut forms = folding.conjugates.iter().filter_map(form);
+            has_undefined(&folding.conjugates) && forms.next().is_some()
+        })
+    }),
+    ("FFFF listed for falsum", |file| {
+        file.falsum().is_some_and(|entry| {
+            let mut foldings = entry.foldings.iter();
+            foldings.any(|folding| has_undefined(&folding.conjugates))
+        })
+    }),
+    ("FFFF listed with 256 atoms", |file| {
+        file.program.atoms == MOST_ATOMS
+            && file.has_folding(|_, folding| has_undefined(&folding.conjugates))
+    }),
+    ("an entry of a head with FFFF alone", |file| {
+        file.has_folding(|_, folding| is_alone(folding))
+    }),
+    (
+        "an entry of a head with no other rule than FFFF alone",
+        |file| file.has_folding(|entry, folding| is_alone(folding) && entry.foldings.len() == 1),
+    ),
+    ("a fact that has a rule of FFFF alone", |file| {
+        file.has_rule(|fact, body| {
+            let is_fact = body.is_empty();
+            is_fact && file.has_rule(|head, body| head == fact && body == ALONE)
+        })
+    }),
+    ("the longest dual and FFFF in it", |file| {
+        file.dual_length == LONGEST_DUAL && mentions_undefined(&file.program)
+    }),
 ];
+
+const ALONE: [BodyLiteral; 1] = [BodyLiteral::Undefined];
+
+fn is_alone(folding: &Folding) -> bool {
+    folding.conjugates == ALONE
+}
+
+/// The form of a literal; FFFF has none.
+pub(crate) fn form(literal: &BodyLiteral) -> Option<Form> {
+    match literal {
+        BodyLiteral::Literal(literal) => Some(literal.form()),
+        BodyLiteral::Undefined => None,
+    }
+}
 
 pub(crate) fn is_negation(literal: ObjectiveLiteral) -> bool {
     literal.0 % 2 == 1
@@ -180,7 +237,7 @@ impl DualCoverage {
 mod tests {
     use super::*;
     use crate::tally::LEAST;
-    use plain::{Atom, Number, Paper, Rule};
+    use plain::{Atom, Number, Paper, Rule, UNDEFINED};
 
     fn rule(head: u16, body: &[u16]) -> Rule {
         Rule {
@@ -189,8 +246,8 @@ mod tests {
         }
     }
 
-    fn literals(numbers: &[u16]) -> Vec<Literal> {
-        numbers.iter().map(|&number| Literal(number)).collect()
+    fn literals(numbers: &[u16]) -> Vec<BodyLiteral> {
+        numbers.iter().copied().map(BodyLiteral::read).collect()
     }
 
     fn features(program: Program) -> Vec<&'static str> {
@@ -253,6 +310,50 @@ mod tests {
     }
 
     #[test]
+    fn the_features_of_programs_with_undefined() {
+        let program = |rules, integrity_bodies| Program {
+            atoms: 1,
+            abducibles: vec![],
+            rules,
+            integrity_bodies,
+        };
+        let alone = program(vec![rule(0, &[UNDEFINED])], vec![]);
+        let expected = [
+            "no fact",
+            "an entry without folds",
+            "falsum without folds",
+            "FFFF listed",
+            "an entry of a head with FFFF alone",
+            "an entry of a head with no other rule than FFFF alone",
+        ];
+        assert_eq!(features(alone), expected);
+
+        // The fact leaves no entry that could list it.
+        let rules = vec![rule(0, &[]), rule(0, &[UNDEFINED])];
+        let with_fact = program(rules, vec![]);
+        let expected = [
+            "a fact",
+            "a fact that has other rules",
+            "an entry without folds",
+            "falsum without folds",
+            "a fact that has a rule of FFFF alone",
+        ];
+        assert_eq!(features(with_fact), expected);
+
+        let of_falsum = program(vec![], vec![literals(&[0, UNDEFINED])]);
+        let expected = [
+            "no fact",
+            "not of an atom listed",
+            "an entry without folds",
+            "falsum with folds",
+            "FFFF listed",
+            "FFFF listed beside literals",
+            "FFFF listed for falsum",
+        ];
+        assert_eq!(features(of_falsum), expected);
+    }
+
+    #[test]
     fn what_never_came_is_complained_of() {
         let mut coverage = DualCoverage::default();
         let complaints = |coverage: &DualCoverage| {
@@ -260,7 +361,7 @@ mod tests {
             complaints.iter().sum::<usize>()
         };
         let numbers_up_to_10 = 10;
-        let accepted = 26;
+        let accepted = 26 + 8;
         let buffers = 3 + 2;
         let all = numbers_up_to_10 + accepted + buffers;
         assert_eq!(complaints(&coverage), all);

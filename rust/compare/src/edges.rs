@@ -2,14 +2,14 @@
 //! their rules.
 
 use plain::field::{MOST_ABDUCIBLES, MOST_ATOMS, MOST_INTEGRITY_RULES, MOST_LITERALS, MOST_RULES};
-use plain::{Atom, Literal, ObjectiveLiteral, Program, Rule};
+use plain::{Atom, BodyLiteral, Literal, ObjectiveLiteral, Program, Rule};
 
 /// How many objective literals there are without falsum.
 const OBJECTIVE: u16 = 2 * MOST_ATOMS;
 
 /// The program with these rules, padded to as many as there can be, and as many
 /// integrity rules.
-fn full(mut rules: Vec<Rule>, padding: Rule, integrity_body: Vec<Literal>) -> Program {
+fn full(mut rules: Vec<Rule>, padding: Rule, integrity_body: Vec<BodyLiteral>) -> Program {
     assert!(rules.len() <= MOST_RULES);
     rules.resize(MOST_RULES, padding);
     Program {
@@ -21,7 +21,7 @@ fn full(mut rules: Vec<Rule>, padding: Rule, integrity_body: Vec<Literal>) -> Pr
 }
 
 /// A rule with one literal in its body, as often as there is room.
-fn repeated(head: u16, literal: Literal) -> Rule {
+fn repeated(head: u16, literal: BodyLiteral) -> Rule {
     Rule {
         head: ObjectiveLiteral(head),
         body: vec![literal; MOST_LITERALS],
@@ -35,16 +35,16 @@ fn fact(head: u16) -> Rule {
     }
 }
 
-fn holds(objective: u16) -> Literal {
-    Literal(2 * objective)
+fn holds(objective: u16) -> BodyLiteral {
+    Literal(2 * objective).into()
 }
 
-fn fails(objective: u16) -> Literal {
-    Literal(2 * objective + 1)
+fn fails(objective: u16) -> BodyLiteral {
+    Literal(2 * objective + 1).into()
 }
 
 /// Fifteen literals of one kind and a last one.
-fn with_last(literal: Literal, last: Literal) -> Vec<Literal> {
+fn with_last(literal: BodyLiteral, last: BodyLiteral) -> Vec<BodyLiteral> {
     let mut body = vec![literal; MOST_LITERALS];
     body[MOST_LITERALS - 1] = last;
     body
@@ -139,10 +139,46 @@ pub fn guarded() -> Program {
     }
 }
 
+/// Every objective literal and falsum have FFFF alone, as often as there is room:
+/// all stay undefined.
+pub fn undefined() -> Program {
+    let heads = (0..OBJECTIVE).chain(0..OBJECTIVE);
+    let rules = heads.map(|head| repeated(head, BodyLiteral::Undefined));
+    let integrity_body = vec![BodyLiteral::Undefined; MOST_LITERALS];
+    full(rules.collect(), fact(0), integrity_body)
+}
+
+/// Each objective literal follows from that of the next rule, and the last one
+/// from FFFF alone; each of the 16 abducibles guards one of them. What stands
+/// before one that is ruled out is false, the others undefined.
+pub fn undefined_chain() -> Program {
+    let abducibles = MOST_ABDUCIBLES as u16;
+    let first = 2 * abducibles;
+    let last = OBJECTIVE - 1;
+    let mut rules: Vec<Rule> = (first..last)
+        .map(|head| repeated(head, holds(head + 1)))
+        .collect();
+    for abducible in 0..abducibles {
+        let guarded = &mut rules[usize::from(30 * abducible)];
+        guarded.body = with_last(guarded.body[0], holds(2 * abducible));
+    }
+    rules.extend(rules.clone());
+    let padding = repeated(last, BodyLiteral::Undefined);
+    let integrity_body = with_last(BodyLiteral::Undefined, holds(first));
+    Program {
+        abducibles: (0..abducibles).map(Atom).collect(),
+        ..full(rules, padding, integrity_body)
+    }
+}
+
 #[cfg(test)]
 mod tests {
     use super::*;
-    use plain::{encode_file, read_file};
+    use crate::programs::{program, Size};
+    use plain::dual::LONGEST_DUAL;
+    use plain::{dual, encode_dual, encode_file, model, read_file};
+    use random::seed::seed;
+    use random::Random;
 
     #[test]
     fn a_file_holds_each_and_no_more() {
@@ -153,6 +189,8 @@ mod tests {
             ring(),
             chain_and_rounds(),
             guarded(),
+            undefined(),
+            undefined_chain(),
         ] {
             assert_eq!(program.atoms, MOST_ATOMS);
             assert_eq!(program.rules.len(), MOST_RULES);
@@ -162,5 +200,24 @@ mod tests {
             }
             assert_eq!(read_file(&encode_file(&program)), Ok(program));
         }
+    }
+
+    #[test]
+    fn with_undefined_there_is_the_longest_dual_and_the_longest_file() {
+        assert_eq!(encode_dual(&dual(&undefined())).len(), LONGEST_DUAL);
+        let largest = program(&mut Random::new(seed(31)), &Size::LARGEST);
+        let length = encode_file(&undefined_chain()).len();
+        assert_eq!(length, encode_file(&largest).len());
+    }
+
+    #[test]
+    fn a_chain_from_undefined_fails_up_to_what_is_ruled_out() {
+        assert_eq!(model(&undefined(), 0).bytes(), [0; 513]);
+        let bytes = model(&undefined_chain(), 2 * 3_u32.pow(7)).bytes();
+        let guarded = 32 + 30 * 7;
+        let last = bytes.len() - 1;
+        assert!(bytes[32..=guarded].iter().all(|&byte| byte == 2));
+        assert!(bytes[guarded + 1..last].iter().all(|&byte| byte == 0));
+        assert_eq!(bytes[last], 2);
     }
 }

@@ -2,10 +2,11 @@
 //! of these must come for a comparison to be worth something.
 
 use plain::field::MOST_ABDUCIBLES;
-use plain::{FreshRefusal, Held, Record};
+use plain::{FreshRefusal, Held, Program, Record};
 
 use crate::masks::Asked;
 use crate::tally::{Counted, Feature, Numbers, Tally, OF_FILE};
+use crate::undefined_coverage::{count_file, files};
 
 /// Masks that the refusal of a paper hides.
 pub const HIDDEN: &[Feature<Held>] = &[
@@ -79,6 +80,7 @@ pub struct FreshCoverage {
     shared: Tally<Asked>,
     unlisted: Tally<Asked>,
     begun: Tally<Asked>,
+    with_undefined: Tally<Program>,
 }
 
 impl Default for FreshCoverage {
@@ -89,6 +91,7 @@ impl Default for FreshCoverage {
             shared: Tally::new("refused 15", SHARED),
             unlisted: Tally::new("refused 16", UNLISTED),
             begun: Tally::new("searches begun", BEGUN),
+            with_undefined: files(),
         }
     }
 }
@@ -98,6 +101,10 @@ impl FreshCoverage {
     pub fn count_refused(&mut self, refusal: &FreshRefusal, held: &Held) {
         self.file.count(refusal.number());
         self.hidden.count(held);
+    }
+
+    pub fn count_accepted(&mut self, program: &Program) {
+        count_file(&mut self.with_undefined, program);
     }
 
     /// Counts what came of an accepted file.
@@ -111,13 +118,14 @@ impl FreshCoverage {
         .count(asked);
     }
 
-    pub fn parts(&self) -> [&dyn Counted; 5] {
+    pub fn parts(&self) -> [&dyn Counted; 6] {
         [
             &self.file,
             &self.hidden,
             &self.shared,
             &self.unlisted,
             &self.begun,
+            &self.with_undefined,
         ]
     }
 }
@@ -125,11 +133,13 @@ impl FreshCoverage {
 #[cfg(test)]
 mod tests {
     use super::*;
+    use crate::undefined_coverage::FILES;
 
     #[test]
     fn what_never_came_is_complained_of() {
         let numbers = 10;
-        let features = HIDDEN.len() + SHARED.len() + UNLISTED.len() + BEGUN.len();
+        let of_masks = HIDDEN.len() + SHARED.len() + UNLISTED.len() + BEGUN.len();
+        let features = of_masks + FILES.len();
         let coverage = FreshCoverage::default();
         let complaints = coverage.parts().map(|part| part.complaints().len());
         assert_eq!(complaints.iter().sum::<usize>(), numbers + features);

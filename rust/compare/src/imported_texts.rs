@@ -2,7 +2,7 @@
 
 use plain::field::{MOST_ABDUCIBLES, MOST_ATOMS, MOST_INTEGRITY_RULES, MOST_LITERALS, MOST_RULES};
 use plain::tokens::split;
-use plain::{encode_file, Atom, Literal, Program};
+use plain::{encode_file, Atom, BodyLiteral, Program};
 
 use crate::surveyed::{is_blank, is_declared_again, lines, Line};
 use crate::tally::Feature;
@@ -39,7 +39,8 @@ impl Imported {
             integrity_bodies,
         } = &self.program;
         let greatest = Atom(atoms - 1);
-        let has = |body: &Vec<Literal>| body.iter().any(|literal| literal.0 / 4 == greatest.0);
+        let is_of_it = |literal: &BodyLiteral| literal.number() / 4 == greatest.0;
+        let has = |body: &Vec<BodyLiteral>| body.iter().any(is_of_it);
         [
             abducibles.contains(&greatest),
             rules.iter().any(|rule| rule.head.atom() == greatest),

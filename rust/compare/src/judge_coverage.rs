@@ -3,7 +3,7 @@
 
 use plain::{JudgeRefusal, Paper};
 
-use crate::judged::{Judged, CONTRADICTED, JUDGED};
+use crate::judged::{Judged, CONTRADICTED, JUDGED, WITH_UNDEFINED};
 use crate::tally::{Counted, Feature, Numbers, Tally, OF_FILE, OF_SHEET};
 
 /// What is lent with accepted papers, beside what must be.
@@ -82,6 +82,7 @@ pub struct JudgeCoverage {
     lent: Tally<Lending>,
     judged: Tally<Judged>,
     contradicted: Tally<Judged>,
+    with_undefined: Tally<Judged>,
 }
 
 impl Default for JudgeCoverage {
@@ -97,6 +98,7 @@ impl Default for JudgeCoverage {
                 "scenarios that a byte 3 alone bars",
                 CONTRADICTED,
             ),
+            with_undefined: Tally::new("scenarios judged of files with FFFF", WITH_UNDEFINED),
         }
     }
 }
@@ -121,6 +123,9 @@ impl JudgeCoverage {
         if judged.is_contradicted() {
             self.contradicted.count(judged);
         }
+        if judged.mentions_undefined() {
+            self.with_undefined.count(judged);
+        }
     }
 
     /// How many scenarios were judged.
@@ -128,7 +133,7 @@ impl JudgeCoverage {
         self.judged.subjects()
     }
 
-    pub fn parts(&self) -> [&dyn Counted; 6] {
+    pub fn parts(&self) -> [&dyn Counted; 7] {
         [
             &self.file,
             &self.sheet,
@@ -136,6 +141,7 @@ impl JudgeCoverage {
             &self.lent,
             &self.judged,
             &self.contradicted,
+            &self.with_undefined,
         ]
     }
 }
@@ -147,7 +153,8 @@ mod tests {
     #[test]
     fn what_never_came_is_complained_of() {
         let numbers = 10 + 5 + 3;
-        let features = LENT.len() + JUDGED.len() + CONTRADICTED.len();
+        let of_judged = JUDGED.len() + CONTRADICTED.len() + WITH_UNDEFINED.len();
+        let features = LENT.len() + of_judged;
         let too_few = 1;
         let coverage = JudgeCoverage::default();
         let complaints = coverage.parts().map(|part| part.complaints().len());

@@ -2,10 +2,12 @@
 
 use plain::field::{MOST_ABDUCIBLES, MOST_ATOMS, MOST_INTEGRITY_RULES, MOST_LITERALS, MOST_RULES};
 use plain::{
-    digits, dual, scenario_count, Digit, Form, Judgement, Literal, ObjectiveLiteral, Program, Query,
+    digits, dual, scenario_count, BodyLiteral, Digit, Form, Judgement, ObjectiveLiteral, Program,
+    Query,
 };
 
-use crate::dual_coverage::is_negation;
+use crate::dual_coverage::{form, is_negation};
+use crate::programs::{has_undefined, mentions_undefined};
 use crate::tally::Feature;
 
 /// A judged scenario.
@@ -35,12 +37,16 @@ fn is_false(model: &[u8], literal: ObjectiveLiteral) -> bool {
     [FALSE, BOTH].contains(&byte(model, literal))
 }
 
-fn query_holds(query: &Query, model: &[u8]) -> bool {
-    let mut forms = query.literals.iter().map(|literal| literal.form());
-    forms.all(|form| match form {
+fn holds(model: &[u8], form: Form) -> bool {
+    match form {
         Form::Objective(objective) => is_true(model, objective),
         Form::Not(objective) => is_false(model, objective),
-    })
+    }
+}
+
+fn query_holds(query: &Query, model: &[u8]) -> bool {
+    let mut forms = query.literals.iter().map(|literal| literal.form());
+    forms.all(|form| holds(model, form))
 }
 
 /// Whether a byte 3 alone keeps a scenario with such a model from being an
@@ -109,12 +115,51 @@ impl Judged {
 
     /// Whether a body that could hold does not make such a head possible.
     fn is_false_by_conjugate_alone(&self, is_it: impl Fn(ObjectiveLiteral) -> bool) -> bool {
-        let can_hold = |literal: &Literal| match literal.form() {
-            Form::Objective(objective) => !self.is_false(objective),
-            Form::Not(objective) => !self.is_true(objective),
-        };
         let mut folds = self.program.folds();
-        folds.any(|(_, head, body)| is_it(head) && self.is_false(head) && body.iter().all(can_hold))
+        folds.any(|(_, head, body)| is_it(head) && self.is_false(head) && !self.fails(body))
+    }
+
+    /// Whether all literals of a body hold that are not FFFF.
+    fn others_hold(&self, body: &[BodyLiteral]) -> bool {
+        let mut forms = body.iter().filter_map(form);
+        forms.all(|form| holds(&self.model, form))
+    }
+
+    /// Whether a literal of a body fails. FFFF never does.
+    fn fails(&self, body: &[BodyLiteral]) -> bool {
+        let mut forms = body.iter().filter_map(form);
+        forms.any(|form| match form {
+            Form::Objective(objective) => self.is_false(objective),
+            Form::Not(objective) => self.is_true(objective),
+        })
+    }
+
+    pub fn mentions_undefined(&self) -> bool {
+        mentions_undefined(&self.program)
+    }
+
+    /// Whether there is such a rule with FFFF, that is no integrity rule.
+    fn has_undefined_rule(&self, is_it: impl Fn(ObjectiveLiteral, &[BodyLiteral]) -> bool) -> bool {
+        let mut rules = self.program.rules.iter();
+        rules.any(|rule| has_undefined(&rule.body) && is_it(rule.head, &rule.body))
+    }
+
+    fn has_true_conjugate(&self, literal: ObjectiveLiteral) -> bool {
+        let conjugate = literal.conjugate(self.program.atoms);
+        conjugate.is_some_and(|conjugate| self.is_true(conjugate))
+    }
+
+    /// Whether FFFF alone keeps those integrity rules from holding that do not
+    /// fail.
+    fn is_falsum_undefined_by_undefined_alone(&self) -> bool {
+        let mut bodies = self.program.integrity_bodies.iter();
+        self.falsum() == UNDEFINED
+            && bodies.all(|body| self.fails(body) || has_undefined(body) && self.others_hold(body))
+    }
+
+    fn has_integrity_rule_with_undefined(&self) -> bool {
+        let mut bodies = self.program.integrity_bodies.iter();
+        bodies.any(|body| has_undefined(body))
     }
 
     /// Whether the least set of backed literals would be less than the greatest.
@@ -123,9 +168,8 @@ impl Judged {
             atoms, abducibles, ..
         } = &self.program;
         let is_backed_alone = |literal: ObjectiveLiteral| {
-            let conjugate = literal.conjugate(*atoms);
-            let is_falsum = conjugate.is_none();
-            conjugate.is_some_and(|conjugate| self.is_true(conjugate))
+            let is_falsum = literal == ObjectiveLiteral::falsum(*atoms);
+            self.has_true_conjugate(literal)
                 || !is_falsum && abducibles.contains(&literal.atom()) && self.is_false(literal)
         };
         let dual = dual(&self.program);
@@ -135,13 +179,15 @@ impl Judged {
         while has_grown {
             has_grown = false;
             for entry in &dual.entries {
-                let holds = |literal: &Literal| match literal.form() {
+                // A listed FFFF never holds.
+                let holds = |form| match form {
                     Form::Objective(objective) => self.is_true(objective),
                     Form::Not(objective) => least[usize::from(objective.0)],
                 };
+                let backs = |listed: &[BodyLiteral]| listed.iter().filter_map(form).any(holds);
                 let mut foldings = entry.foldings.iter();
                 let at = usize::from(entry.literal.0);
-                if !least[at] && foldings.all(|folding| folding.conjugates.iter().any(holds)) {
+                if !least[at] && foldings.all(|folding| backs(&folding.conjugates)) {
                     least[at] = true;
                     has_grown = true;
                 }
@@ -216,6 +262,47 @@ pub const JUDGED: &[Feature<Judged>] = &[
     }),
 ];
 
+/// What a judged scenario of a file with FFFF can have.
+pub const WITH_UNDEFINED: &[Feature<Judged>] = &[
+    ("an explanation", |it| it.judgement.explains),
+    ("no explanation", |it| !it.judgement.explains),
+    (
+        "a literal undefined that would be true without FFFF",
+        |it| it.has_undefined_rule(|head, body| it.byte(head) == UNDEFINED && it.others_hold(body)),
+    ),
+    ("a literal undefined by FFFF alone", |it| {
+        it.has_undefined_rule(|head, body| it.byte(head) == UNDEFINED && body.len() == 1)
+    }),
+    ("a literal true by another rule than that with FFFF", |it| {
+        it.has_undefined_rule(|head, body| it.byte(head) == TRUE && !it.fails(body))
+    }),
+    ("a literal false though a rule of it has FFFF", |it| {
+        it.has_undefined_rule(|head, body| {
+            it.byte(head) == FALSE && it.fails(body) && !it.has_true_conjugate(head)
+        })
+    }),
+    (
+        "a literal false by its conjugate alone and a rule with FFFF",
+        |it| it.has_undefined_rule(|head, body| it.byte(head) == FALSE && !it.fails(body)),
+    ),
+    ("a literal both and a rule of it with FFFF", |it| {
+        it.has_undefined_rule(|head, _| it.byte(head) == BOTH)
+    }),
+    ("falsum undefined through FFFF alone", |it| {
+        it.is_falsum_undefined_by_undefined_alone()
+    }),
+    ("a query that holds while falsum is so", |it| {
+        it.query_holds() && it.is_falsum_undefined_by_undefined_alone()
+    }),
+    ("falsum false though an integrity rule has FFFF", |it| {
+        it.falsum() == FALSE && it.has_integrity_rule_with_undefined()
+    }),
+    ("falsum true by another integrity rule", |it| {
+        it.falsum() == TRUE && it.has_integrity_rule_with_undefined()
+    }),
+    ("256 atoms", |it| it.program.atoms == MOST_ATOMS),
+];
+
 /// What a scenario can have that a byte 3 alone keeps from being an explanation.
 pub const CONTRADICTED: &[Feature<Judged>] = &[
     ("a query for a literal that is both", |it| {
@@ -238,10 +325,7 @@ pub const CONTRADICTED: &[Feature<Judged>] = &[
     }),
     ("an empty query", |it| it.query.literals.is_empty()),
     ("a literal both whose conjugate is not true", |it| {
-        it.has(|literal| {
-            let conjugate = literal.conjugate(it.program.atoms);
-            it.byte(literal) == BOTH && !conjugate.is_some_and(|other| it.is_true(other))
-        })
+        it.has(|literal| it.byte(literal) == BOTH && !it.has_true_conjugate(literal))
     }),
     ("one atom both", |it| {
         (0..it.program.atoms)
@@ -264,6 +348,7 @@ pub const CONTRADICTED: &[Feature<Judged>] = &[
 #[cfg(test)]
 mod tests {
     use super::*;
+    use crate::tally::names;
     use plain::{model, read_papers};
 
     fn judged(atoms: &str, abducibles: &str, rules: &str, query: &str, scenario: u32) -> Judged {
@@ -289,6 +374,8 @@ mod tests {
     fn a_ring_fails_where_it_has_no_way_in() {
         assert!(ring_fails("p", "", "p :- p", 0));
         assert!(ring_fails("p q", "", "p :- q; q :- p", 0));
+        assert!(ring_fails("p q", "", "p :- q, undefined; q :- p", 0));
+        assert!(!ring_fails("p q", "", "p :- q; q :- p; q :- undefined", 0));
         assert!(!ring_fails("p q", "", "p :- q; q :- p; q", 0));
         assert!(!ring_fails("p q", "", "p :- q", 0));
         assert!(!ring_fails("p", "", "p :- not p", 0));
@@ -308,6 +395,7 @@ mod tests {
         let of_any = |rules| is_it(rules, |_| true);
         assert!(of_any("p :- not p; -p"));
         assert!(of_any("p; -p"));
+        assert!(of_any("p :- undefined; -p"));
         assert!(!of_any("p :- q; -p"));
         assert!(!of_any("p :- not p"));
         let is_atom = |head| !is_negation(head);
@@ -336,6 +424,38 @@ mod tests {
         ];
         assert_eq!(names, expected);
         assert!(!it.is_contradicted(), "falsum is both");
+    }
+
+    #[test]
+    fn what_undefined_does() {
+        let features = |rules| names(WITH_UNDEFINED, &judged("p q", "", rules, "", 0));
+        let (explains, does_not) = ("an explanation", "no explanation");
+        let undefined = "a literal undefined that would be true without FFFF";
+        let alone = "a literal undefined by FFFF alone";
+        assert_eq!(features("p :- undefined"), [explains, undefined, alone]);
+        assert_eq!(features("p :- undefined, not q"), [explains, undefined]);
+        assert_eq!(features("p :- undefined, q; q :- not q"), [explains]);
+        let is_true = "a literal true by another rule than that with FFFF";
+        assert_eq!(features("p; p :- undefined"), [explains, is_true]);
+        let is_false = "a literal false though a rule of it has FFFF";
+        assert_eq!(features("p :- undefined, q"), [explains, is_false]);
+        assert_eq!(features("p :- undefined, q; -p"), [explains]);
+        let by_conjugate = "a literal false by its conjugate alone and a rule with FFFF";
+        assert_eq!(features("p :- undefined; -p"), [explains, by_conjugate]);
+        let both = "a literal both and a rule of it with FFFF";
+        assert_eq!(features("p; -p; p :- undefined"), [does_not, both]);
+
+        let falsum = "falsum undefined through FFFF alone";
+        let holds = "a query that holds while falsum is so";
+        assert_eq!(features("falsum :- undefined"), [does_not, falsum, holds]);
+        let beside = "falsum :- undefined; falsum :- q";
+        assert_eq!(features(beside), [does_not, falsum, holds]);
+        let by_another = "q :- not q; falsum :- undefined; falsum :- q";
+        assert_eq!(features(by_another), [does_not]);
+        let failing = "falsum false though an integrity rule has FFFF";
+        assert_eq!(features("falsum :- undefined, q"), [explains, failing]);
+        let holding = "falsum true by another integrity rule";
+        assert_eq!(features("falsum :- undefined; falsum"), [does_not, holding]);
     }
 
     #[test]

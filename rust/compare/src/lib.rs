@@ -25,6 +25,7 @@
 //!   [`held_coverage`] for what held faults do and [`spoilt`] for test 14, and
 //!   [`text_coverage`] for importing; all but the first with the counts of
 //!   [`tally`], and where something is written with those of [`buffers`];
+//!   [`undefined_coverage`] counts where FFFF stood;
 //! * [`surveyed`] is what stands in a text, and with it [`broken_texts`],
 //!   [`unfit_texts`] and [`imported_texts`] are what texts have that are refused by
 //!   17 or 18, refused by the file's own numbers, and accepted.
@@ -65,5 +66,6 @@ pub mod text_damage;
 pub mod text_limits;
 pub mod texts;
 pub mod typing;
+pub mod undefined_coverage;
 pub mod unfit_texts;
 pub mod words;

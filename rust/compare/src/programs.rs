@@ -1,7 +1,7 @@
 //! Random programs and queries of a chosen size.
 
 use plain::field::{MOST_ABDUCIBLES, MOST_ATOMS, MOST_INTEGRITY_RULES, MOST_LITERALS, MOST_RULES};
-use plain::{Atom, Literal, ObjectiveLiteral, Program, Query, Rule};
+use plain::{Atom, BodyLiteral, Form, Literal, ObjectiveLiteral, Program, Query, Rule};
 use random::Random;
 
 /// How large a program and its query are.
@@ -126,8 +126,16 @@ fn around(random: &mut Random, limit: usize) -> usize {
 }
 
 /// A program of this size, save that it has fewer abducibles where it has not
-/// the atoms for them, and no rules where no head is left for them.
+/// the atoms for them, and no rules where no head is left for them. About one
+/// body in five has FFFF, and may be longer for it where there is room.
 pub fn program(random: &mut Random, size: &Size) -> Program {
+    let mut program = without_undefined(random, size);
+    add_undefined(random, &mut program, 5);
+    program
+}
+
+/// The same without FFFF.
+pub fn without_undefined(random: &mut Random, size: &Size) -> Program {
     let abducibles = some_atoms(random, size.atoms, size.abducibles);
     let heads = heads(size.atoms, &abducibles);
     let rules = if heads.is_empty() { 0 } else { size.rules };
@@ -137,13 +145,18 @@ pub fn program(random: &mut Random, size: &Size) -> Program {
         rules: (0..rules)
             .map(|_| Rule {
                 head: random.pick(&heads),
-                body: literals(random, size),
+                body: body_of(literals(random, size)),
             })
             .collect(),
         integrity_bodies: (0..size.integrity_rules)
-            .map(|_| literals(random, size))
+            .map(|_| body_of(literals(random, size)))
             .collect(),
     }
+}
+
+/// The body of these literals.
+pub fn body_of(literals: Vec<Literal>) -> Vec<BodyLiteral> {
+    literals.into_iter().map(BodyLiteral::from).collect()
 }
 
 pub fn query(random: &mut Random, size: &Size) -> Query {
@@ -154,12 +167,53 @@ pub fn query(random: &mut Random, size: &Size) -> Query {
 
 /// Empties some bodies, which makes facts of their heads.
 pub fn add_facts(random: &mut Random, program: &mut Program) {
-    let rule_bodies = program.rules.iter_mut().map(|rule| &mut rule.body);
-    for body in rule_bodies.chain(&mut program.integrity_bodies) {
+    for body in bodies(program) {
         if random.one_in(8) {
             body.clear();
         }
     }
+}
+
+/// Puts FFFF into one body in `times`, now and then more than once.
+pub fn add_undefined(random: &mut Random, program: &mut Program, times: usize) {
+    for body in bodies(program) {
+        if random.one_in(times) {
+            put_undefined(random, body);
+            while random.one_in(4) {
+                put_undefined(random, body);
+            }
+        }
+    }
+}
+
+/// Puts FFFF at any place of a body: among its literals or for one of them, as it
+/// must be where there is no more room.
+fn put_undefined(random: &mut Random, body: &mut Vec<BodyLiteral>) {
+    let is_full = body.len() >= MOST_LITERALS;
+    if is_full || !body.is_empty() && random.one_in(2) {
+        let place = random.below(body.len());
+        body[place] = BodyLiteral::Undefined;
+    } else {
+        let place = random.between(0, body.len());
+        body.insert(place, BodyLiteral::Undefined);
+    }
+}
+
+/// All bodies, those of the integrity rules last.
+pub fn bodies(program: &mut Program) -> impl Iterator<Item = &mut Vec<BodyLiteral>> {
+    let of_rules = program.rules.iter_mut().map(|rule| &mut rule.body);
+    of_rules.chain(&mut program.integrity_bodies)
+}
+
+/// Whether FFFF is in the body.
+pub fn has_undefined(body: &[BodyLiteral]) -> bool {
+    body.contains(&BodyLiteral::Undefined)
+}
+
+/// Whether FFFF is in any body.
+pub fn mentions_undefined(program: &Program) -> bool {
+    let mut folds = program.folds();
+    folds.any(|(_, _, body)| has_undefined(body))
 }
 
 /// So many of the atoms, or all where there are fewer, strictly rising.
@@ -179,14 +233,14 @@ pub fn heads(atoms: u16, abducibles: &[Atom]) -> Vec<ObjectiveLiteral> {
         .collect()
 }
 
-/// The literal o.
-pub fn holds(objective: ObjectiveLiteral) -> Literal {
-    Literal(2 * objective.0)
+/// The literal o in a body.
+pub fn holds(objective: ObjectiveLiteral) -> BodyLiteral {
+    Form::Objective(objective).literal().into()
 }
 
-/// The literal not(o).
-pub fn fails(objective: ObjectiveLiteral) -> Literal {
-    Literal(2 * objective.0 + 1)
+/// The literal not(o) in a body.
+pub fn fails(objective: ObjectiveLiteral) -> BodyLiteral {
+    Form::Not(objective).literal().into()
 }
 
 fn literals(random: &mut Random, size: &Size) -> Vec<Literal> {
@@ -215,6 +269,7 @@ mod tests {
         let end = 3;
         let file = plain::encode_file(&program);
         assert_eq!(file.len(), front + rules + integrity_rules + end);
+        assert!(mentions_undefined(&program));
         assert_eq!(plain::read_file(&file), Ok(program));
     }
 
@@ -224,6 +279,41 @@ mod tests {
         let program = program(&mut random, &Size::LONGEST_DUAL);
         let dual = plain::encode_dual(&plain::dual(&program));
         assert_eq!(dual.len(), 52_488);
+        assert!(mentions_undefined(&program));
+    }
+
+    #[test]
+    fn about_one_body_in_five_has_undefined() {
+        let mut random = Random::new(seed(29));
+        let [mut all, mut with, mut alone, mut twice] = [0; 4];
+        for _ in 0..2_000 {
+            let size = Size::crowded(&mut random);
+            assert!(!mentions_undefined(&without_undefined(&mut random, &size)));
+            for (_, _, body) in program(&mut random, &size).folds() {
+                let is_undefined = |literal: &&BodyLiteral| **literal == BodyLiteral::Undefined;
+                let count = body.iter().filter(is_undefined).count();
+                all += 1;
+                with += usize::from(count > 0);
+                alone += usize::from(count > 0 && body.len() == 1);
+                twice += usize::from(count > 1);
+            }
+        }
+        assert!((all / 6..all / 4).contains(&with), "{with} of {all}");
+        let rare = all / 100;
+        assert!(alone > rare && twice > rare, "{alone} and {twice} of {all}");
+    }
+
+    #[test]
+    fn undefined_takes_a_place_where_there_is_no_room() {
+        let mut random = Random::new(seed(30));
+        for length in 0..=MOST_LITERALS {
+            let mut body = vec![BodyLiteral::from(Literal(0)); length];
+            for _ in 0..40 {
+                put_undefined(&mut random, &mut body);
+                assert!(has_undefined(&body));
+                assert!((length..=MOST_LITERALS).contains(&body.len()));
+            }
+        }
     }
 
     #[test]

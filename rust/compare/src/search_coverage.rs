@@ -3,6 +3,7 @@
 
 use plain::{contains_assumptions, ContinueRefusal, Continued, Held, Paper, Record, State};
 
+use crate::definition::Definition;
 use crate::fresh_coverage::HIDDEN;
 use crate::held_coverage::{HeldCall, HeldSearch, HELD_CALLS, HELD_SEARCHES};
 use crate::searches::{Papers, Went, LANES};
@@ -215,6 +216,25 @@ const SHORT_DUALS: &[Feature<ShortDual>] = &[
     }),
 ];
 
+/// What the definition can say of a fresh search over a file with FFFF.
+const WITH_UNDEFINED: &[Feature<Definition>] = &[
+    ("a find", |it| !it.found.is_empty()),
+    ("several finds", |it| it.found.len() > 1),
+    ("a find of some assumptions", |it| {
+        it.found.iter().any(|&entry| entry > 0)
+    }),
+    ("more finds than the list has room for", |it| {
+        it.minimal.len() > it.found.len()
+    }),
+    ("nothing to find", |it| it.minimal.is_empty()),
+    ("held faults and a find", |it| {
+        it.held != Held::NONE && !it.found.is_empty()
+    }),
+    ("held faults and nothing to find", |it| {
+        it.held != Held::NONE && it.minimal.is_empty()
+    }),
+];
+
 /// How often each answer came.
 pub struct SearchCoverage {
     file: Numbers,
@@ -225,6 +245,7 @@ pub struct SearchCoverage {
     calls: Tally<Call>,
     held_calls: Tally<HeldCall>,
     pub held_searches: Tally<HeldSearch>,
+    pub with_undefined: Tally<Definition>,
 }
 
 impl Default for SearchCoverage {
@@ -238,6 +259,7 @@ impl Default for SearchCoverage {
             calls: Tally::new("calls accepted", CALLS),
             held_calls: Tally::new("calls that hold faults", HELD_CALLS),
             held_searches: Tally::new("searches that hold faults", HELD_SEARCHES),
+            with_undefined: Tally::new("searches over files with FFFF", WITH_UNDEFINED),
         }
     }
 }
@@ -263,7 +285,7 @@ impl SearchCoverage {
         }
     }
 
-    pub fn parts(&self) -> [&dyn Counted; 8] {
+    pub fn parts(&self) -> [&dyn Counted; 9] {
         [
             &self.file,
             &self.sheet,
@@ -273,6 +295,7 @@ impl SearchCoverage {
             &self.calls,
             &self.held_calls,
             &self.held_searches,
+            &self.with_undefined,
         ]
     }
 }
@@ -286,7 +309,7 @@ mod tests {
         let numbers = 10 + 5;
         let of_held = HELD_CALLS.len() + HELD_SEARCHES.len();
         let refused = HIDDEN.len() + SHORT_DUALS.len() + SPOILT.len();
-        let features = refused + CALLS.len() + of_held;
+        let features = refused + CALLS.len() + of_held + WITH_UNDEFINED.len();
         let coverage = SearchCoverage::default();
         let complaints = coverage.parts().map(|part| part.complaints().len());
         assert_eq!(complaints.iter().sum::<usize>(), numbers + features);

@@ -13,6 +13,7 @@ use random::Random;
 use crate::causes::{causes, query_of_heads, Causes};
 use crate::judged::is_contradicted;
 use crate::masks::{self, Asked};
+use crate::programs::mentions_undefined;
 
 /// Papers that are accepted.
 pub struct Papers {
@@ -23,6 +24,8 @@ pub struct Papers {
     /// k, and 3^k.
     pub abducibles: usize,
     pub scenarios: u32,
+    /// Whether a body has FFFF.
+    pub has_undefined: bool,
     query: Query,
     /// Whether a byte 3 alone bars them, of the scenarios that were asked for.
     contradicted: HashMap<u32, bool>,
@@ -38,6 +41,7 @@ impl Papers {
             dual_length: encode_dual(&dual(&program)).len(),
             abducibles: program.abducibles.len(),
             scenarios: scenario_count(&program),
+            has_undefined: mentions_undefined(&program),
             search: Search::keeping(program, query),
         }
     }

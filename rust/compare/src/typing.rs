@@ -4,10 +4,10 @@
 use std::iter::repeat_n;
 
 use plain::field::MOST_ATOMS;
-use plain::{Form, Literal, ObjectiveLiteral, Program};
+use plain::{BodyLiteral, Form, Literal, ObjectiveLiteral, Program};
 use random::Random;
 
-use crate::programs::{program, Size};
+use crate::programs::{bodies, without_undefined, Size};
 
 /// A token, or what stands in the place of one.
 #[derive(Clone, Copy, Debug, PartialEq, Eq)]
@@ -29,9 +29,9 @@ pub const STOP: Typed = Typed::Word(".");
 pub type Line = Vec<Typed>;
 
 /// A program of this size, but with as many atoms as it types: those up to the
-/// greatest that it names, or one. Now and then that is p255.
+/// greatest that it names, or one. Now and then that is p255. FFFF can't be typed.
 pub fn typable(random: &mut Random, size: &Size) -> Program {
-    let mut program = program(random, size);
+    let mut program = without_undefined(random, size);
     if let Some(greatest) = greatest_named(&program) {
         program.atoms = greatest + 1;
         if random.one_in(8) {
@@ -47,7 +47,7 @@ fn greatest_named(program: &Program) -> Option<u16> {
     let abducibles = program.abducibles.iter().map(|atom| atom.0);
     let heads = program.rules.iter().map(|rule| rule.head.atom().0);
     let literals = program.folds().flat_map(|(_, _, body)| body);
-    let in_bodies = literals.map(|literal| literal.0 / 4);
+    let in_bodies = literals.map(|&literal| typed(literal).0 / 4);
     abducibles.chain(heads).chain(in_bodies).max()
 }
 
@@ -60,10 +60,21 @@ fn raise_atoms(program: &mut Program, by: u16) {
     for rule in &mut program.rules {
         rule.head.0 += 2 * by;
     }
-    let bodies = program.rules.iter_mut().map(|rule| &mut rule.body);
-    for literal in bodies.chain(&mut program.integrity_bodies).flatten() {
-        literal.0 += 4 * by;
+    for literal in bodies(program).flatten() {
+        *literal = Literal(typed(*literal).0 + 4 * by).into();
     }
+}
+
+/// The literal of a body that is typed.
+fn typed(literal: BodyLiteral) -> Literal {
+    match literal {
+        BodyLiteral::Literal(literal) => literal,
+        BodyLiteral::Undefined => panic!("FFFF can't be typed"),
+    }
+}
+
+fn typed_body(body: &[BodyLiteral]) -> Vec<Literal> {
+    body.iter().copied().map(typed).collect()
 }
 
 /// Lines that type the program. Its abducibles stand in any order, some more
@@ -76,9 +87,9 @@ pub fn lines(random: &mut Random, program: &Program) -> Vec<Line> {
     random.shuffle(&mut abducibles);
     let declarations = abducibles.iter().map(|atom| declaration(atom.0));
     let rules = program.rules.iter();
-    let rules = rules.map(|it| rule(it.head, &it.body));
+    let rules = rules.map(|it| rule(it.head, &typed_body(&it.body)));
     let bodies = program.integrity_bodies.iter();
-    let integrity_rules = bodies.map(|body| integrity_rule(body));
+    let integrity_rules = bodies.map(|body| integrity_rule(&typed_body(body)));
     let kinds = [
         declarations.collect(),
         rules.collect(),
@@ -173,6 +184,7 @@ pub fn text(random: &mut Random, tokens: &[Typed]) -> Vec<u8> {
 #[cfg(test)]
 mod tests {
     use super::*;
+    use crate::programs::body_of;
     use plain::{import, Atom, Rule};
     use random::seed::seed;
     use std::collections::BTreeSet;
@@ -237,9 +249,9 @@ mod tests {
             abducibles: vec![Atom(1)],
             rules: vec![Rule {
                 head: ObjectiveLiteral(1),
-                body: vec![Literal(5), Literal(2)],
+                body: body_of(vec![Literal(5), Literal(2)]),
             }],
-            integrity_bodies: vec![vec![Literal(7)]],
+            integrity_bodies: vec![body_of(vec![Literal(7)])],
         };
         raise_atoms(&mut program, 3);
         let mut random = Random::new(seed(28));

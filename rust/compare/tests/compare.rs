@@ -3,6 +3,7 @@
 use compare::comparison::{Comparison, Told};
 use compare::coverage::Coverage;
 use compare::rounds::{mixed_rounds, Examiner};
+use compare::undefined_coverage::UndefinedCoverage;
 use compare::words;
 use plain::{encode_file, encode_sheet, read_file, read_papers, rest_of_paper};
 use plain::{Paper, Program, Query, Refusal};
@@ -16,6 +17,7 @@ fn main() {
     let mut readings = Readings {
         comparison,
         coverage: Coverage::default(),
+        undefined: UndefinedCoverage::default(),
     };
     while readings.comparison.calls < LEAST_PAIRS {
         mixed_rounds(&mut random, &mut readings);
@@ -24,14 +26,17 @@ fn main() {
     let Readings {
         comparison,
         coverage,
+        undefined,
     } = readings;
     let compared = format!("{} pairs compared", comparison.calls);
-    comparison.end(&compared, &[&coverage]);
+    let [with_undefined, refused] = undefined.parts();
+    comparison.end(&compared, &[&coverage, with_undefined, refused]);
 }
 
 struct Readings {
     comparison: Comparison,
     coverage: Coverage,
+    undefined: UndefinedCoverage,
 }
 
 impl Examiner for Readings {
@@ -58,8 +63,14 @@ impl Examiner for Readings {
         self.comparison.expect_words(&found, &expected, &call);
         self.check_rewriting(&reading, file, sheet);
         match &reading {
-            Ok((program, query)) => self.coverage.count_accepted(program, query),
-            Err(refusal) => self.coverage.count_refused(refusal, rest),
+            Ok((program, query)) => {
+                self.coverage.count_accepted(program, query);
+                self.undefined.count_accepted(program);
+            }
+            Err(refusal) => {
+                self.coverage.count_refused(refusal, rest);
+                self.undefined.count_refused(file, refusal, rest);
+            }
         }
     }
 }

@@ -7,7 +7,8 @@ use compare::causes::{causes, consistent_causes, query_of_heads, Causes};
 use compare::damage::{a_few, damaged, Bounds};
 use compare::examples::examples;
 use compare::noise::noise;
-use plain::{desk, encode_file, encode_sheet};
+use compare::programs::mentions_undefined;
+use plain::{desk, encode_file, encode_sheet, read_file};
 use random::seed::{seeds, VARIABLE};
 use random::Random;
 use std::fs;
@@ -15,7 +16,10 @@ use std::path::{Path, PathBuf};
 use std::process::Command;
 
 /// Random folders, each with its own seed.
-const FOLDERS: u64 = 800;
+const FOLDERS: u64 = 1_600;
+
+/// So many of them must be such as are counted.
+const LEAST: u64 = 50;
 
 /// More bytes than the desk program reads of a paper.
 const LONG: usize = 70_000;
@@ -83,10 +87,15 @@ fn found(random: &mut Random, whole: Vec<u8>, bounds: &Bounds) -> Option<Vec<u8>
     }
 }
 
+fn has_undefined(file: &[u8]) -> bool {
+    read_file(file).is_ok_and(|program| mentions_undefined(&program))
+}
+
 #[test]
 fn random_folders_print_what_the_separate_finder_renders() {
-    let mut explained = 0;
-    let mut refused = 0;
+    let [mut explained, mut refused] = [0; 2];
+    // Of those with FFFF.
+    let [mut found_some, mut found_none] = [0; 2];
     for seed in seeds(0, FOLDERS) {
         let mut random = Random::new(seed);
         let abducibles = random.between(0, 7);
@@ -103,12 +112,20 @@ fn random_folders_print_what_the_separate_finder_renders() {
         folder.put("sheet", &sheet);
         let expected = desk(file.as_deref(), sheet.as_deref());
         assert_eq!(printed(&folder.0), expected, "{VARIABLE}={seed}");
-        explained += u64::from(expected.contains("\nfound "));
-        refused += u64::from(expected.starts_with("refused "));
+        let is_explained = expected.contains("\nfound ");
+        let is_refused = expected.starts_with("refused ");
+        explained += u64::from(is_explained);
+        refused += u64::from(is_refused);
+        if file.as_deref().is_some_and(has_undefined) {
+            found_some += u64::from(is_explained);
+            found_none += u64::from(!is_explained && !is_refused);
+        }
     }
-    println!("{FOLDERS} folders, {explained} explained, {refused} refused");
-    assert!(
-        explained >= 50 && refused >= 50,
-        "{explained} explained, {refused} refused"
+    let told = format!(
+        "{explained} explained, {refused} refused; \
+         with FFFF {found_some} explained, {found_none} not"
     );
+    println!("{FOLDERS} folders, {told}");
+    let counts = [explained, refused, found_some, found_none];
+    assert!(counts.iter().all(|&count| count >= LEAST), "{told}");
 }

@@ -6,7 +6,9 @@ mod crossing;
 use std::time::{Duration, Instant};
 
 use compare::comparison::Comparison;
-use compare::edges::{alternating, chain, chain_and_rounds, guarded, ring, Order};
+use compare::edges::{
+    alternating, chain, chain_and_rounds, guarded, ring, undefined, undefined_chain, Order,
+};
 use compare::programs::{add_facts, program, query, Size};
 use compare::words;
 use plain::dual::LONGEST_DUAL;
@@ -107,6 +109,17 @@ fn by_hand() -> Vec<Case> {
             // A batch and more before the first with the last fault ruled out.
             position: 2 * 3_u32.pow(15) - 100,
             allowance: 300,
+        },
+        one_scenario("FFFF alone in every body", 0, undefined()),
+        Case {
+            name: "a chain from FFFF, ruled out in its middle",
+            program: undefined_chain(),
+            query: NO_QUERY,
+            scenario: 2 * 3_u32.pow(7),
+            rounds: Some(1),
+            held: Held::NONE,
+            position: 0,
+            allowance: 70,
         },
     ]
 }

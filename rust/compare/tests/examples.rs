@@ -10,8 +10,8 @@ use plain::desk::LIST_LENGTH;
 use plain::dual::LONGEST_DUAL;
 use plain::model::LONGEST_MODEL;
 use plain::{
-    minimal_explanations, minimal_of, model, read_papers, scenario_count, Held, Literal, Program,
-    Query, Search,
+    minimal_explanations, minimal_of, model, read_papers, scenario_count, BodyLiteral, Held,
+    Program, Query, Search,
 };
 
 const ALLOWANCES: [u32; 8] = [1, 2, 3, 7, 63, 64, 65, u32::MAX];
@@ -206,7 +206,7 @@ fn a_sealed_meter_that_is_faulty_and_not_is_not_told() {
     let bytes = [1, 2, 2, 1, 0, 0, 0, 0, 1, 2, 3, 3, 1, 2, 1, 2, 2];
     assert_eq!(model(&program, 7).bytes(), bytes);
 
-    let (faulty, not_faulty) = (Literal(4 * 5), Literal(4 * 5 + 2));
+    let (faulty, not_faulty) = (BodyLiteral::read(4 * 5), BodyLiteral::read(4 * 5 + 2));
     program.integrity_bodies.push(vec![faulty, not_faulty]);
     assert_eq!(minimal(&program), [10, 33, 38, 39]);
 }

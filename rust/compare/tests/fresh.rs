@@ -57,7 +57,10 @@ impl FileExaminer for Begun {
     fn file(&mut self, file: &[u8]) {
         self.files += 1;
         match read_file(file) {
-            Ok(program) => self.accepted(file, program.abducibles.len()),
+            Ok(program) => {
+                self.coverage.count_accepted(&program);
+                self.accepted(file, program.abducibles.len());
+            }
             Err(_) => self.refused(file),
         }
     }

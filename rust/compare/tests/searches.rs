@@ -92,6 +92,9 @@ fn fresh_search(random: &mut Random, papers: &mut Papers, searches: &mut Searche
     let begun = begin(&mut searches.comparison, &papers.file, held);
     let start = begun.expect("masks that are accepted");
     let definition = Definition::new(papers, held, length);
+    if papers.has_undefined {
+        searches.coverage.with_undefined.count(&definition);
+    }
 
     let mut in_pieces = list.clone();
     let (record, sums) = pieces(random, papers, searches, &mut in_pieces, start);

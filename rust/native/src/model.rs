@@ -4,7 +4,7 @@ use crate::digits::Digit;
 use crate::program::{Program, Rule};
 
 /// What is kept from one batch of scenarios to the next, a word for each judged
-/// literal.
+/// literal and a last one for u.
 pub struct Settling {
     pub t: Vec<u64>,
     pub f: Vec<u64>,
@@ -20,13 +20,15 @@ pub struct Settling {
 
 impl Settling {
     pub fn new(program: &Program) -> Self {
-        let words = || vec![0; program.judged];
+        let words = || vec![0; program.judged + 1];
+        let mut p = words();
+        p[program.undefined()] = u64::MAX;
         Settling {
             t: words(),
             f: words(),
             rounds: [0; 64],
             next_t: words(),
-            p: words(),
+            p,
             seed: words(),
             possible: words(),
             not_t: words(),

@@ -1,6 +1,6 @@
 //! The rules of a program as numbers.
 
-use plain::{Form, Literal};
+use plain::{BodyLiteral, Form, Literal};
 
 /// The rules and integrity rules, in file order.
 pub struct Program {
@@ -18,24 +18,38 @@ pub struct Rule {
 
 /// A body or a query: the literals that hold by their own words, and those o of
 /// which not(o) does.
+#[derive(Default)]
 pub struct Body {
     pub objective: Vec<usize>,
     pub negated: Vec<usize>,
 }
 
 impl Body {
-    pub fn new(literals: &[Literal]) -> Self {
-        let mut body = Body {
-            objective: vec![],
-            negated: vec![],
-        };
+    pub fn of_query(literals: &[Literal]) -> Self {
+        let mut body = Body::default();
+        for &literal in literals {
+            body.push(literal);
+        }
+        body
+    }
+
+    /// That of a rule, where u stands as this literal.
+    fn of_rule(literals: &[BodyLiteral], undefined: usize) -> Self {
+        let mut body = Body::default();
         for literal in literals {
-            match literal.form() {
-                Form::Objective(o) => body.objective.push(o.0.into()),
-                Form::Not(o) => body.negated.push(o.0.into()),
+            match *literal {
+                BodyLiteral::Literal(literal) => body.push(literal),
+                BodyLiteral::Undefined => body.objective.push(undefined),
             }
         }
         body
+    }
+
+    fn push(&mut self, literal: Literal) {
+        match literal.form() {
+            Form::Objective(o) => self.objective.push(o.0.into()),
+            Form::Not(o) => self.negated.push(o.0.into()),
+        }
     }
 
     /// The lanes of these in which it holds.
@@ -54,13 +68,14 @@ impl Body {
 
 impl Program {
     pub fn new(program: &plain::Program) -> Self {
+        let judged = 2 * usize::from(program.atoms) + 1;
         let rules = program.folds().map(|(_, head, body)| Rule {
             head: head.0.into(),
-            body: Body::new(body),
+            body: Body::of_rule(body, judged),
         });
         let abducibles = program.abducibles.iter();
         Program {
-            judged: 2 * usize::from(program.atoms) + 1,
+            judged,
             abducibles: abducibles.map(|atom| 2 * usize::from(atom.0)).collect(),
             rules: rules.collect(),
         }
@@ -68,6 +83,12 @@ impl Program {
 
     pub fn falsum(&self) -> usize {
         self.judged - 1
+    }
+
+    /// What u is in bodies: a literal behind those that are judged, that is never
+    /// true and always possible.
+    pub fn undefined(&self) -> usize {
+        self.judged
     }
 
     pub fn scenarios(&self) -> u32 {

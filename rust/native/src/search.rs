@@ -18,7 +18,7 @@ pub struct Found {
 /// All scenarios of a program, 64 at a time.
 pub fn search(program: &plain::Program, query: &Query) -> Found {
     let program = Program::new(program);
-    let query = Body::new(&query.literals);
+    let query = Body::of_query(&query.literals);
     let count = program.scenarios();
     let mut settling = Settling::new(&program);
     let mut listed: Vec<Assumptions> = vec![];

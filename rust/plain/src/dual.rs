@@ -1,6 +1,6 @@
 //! The dual table: Definition 3.1 of document 000, as fields.
 
-use crate::numbering::{Fold, Literal, ObjectiveLiteral};
+use crate::numbering::{BodyLiteral, Fold, ObjectiveLiteral};
 use crate::program::Program;
 use crate::read::read_file;
 use crate::refusal::WriteRefusal;
@@ -29,8 +29,9 @@ pub struct Entry {
 #[derive(Clone, Debug, PartialEq, Eq)]
 pub struct Folding {
     pub fold: Fold,
-    /// The default conjugates of the rule's body literals in order.
-    pub conjugates: Vec<Literal>,
+    /// The default conjugates of the rule's body literals in order; u where the
+    /// body has it.
+    pub conjugates: Vec<BodyLiteral>,
 }
 
 /// Writes the dual of the file to the start of the buffer and gives its length.

@@ -6,7 +6,7 @@
 
 use crate::dual::{Dual, Entry};
 use crate::model::Interpretation;
-use crate::numbering::{Form, Literal, ObjectiveLiteral};
+use crate::numbering::{BodyLiteral, Form, ObjectiveLiteral};
 use crate::program::Program;
 use crate::scenario::{Valuation, Value};
 use crate::sets::JudgedSet;
@@ -57,11 +57,14 @@ fn entries_by_literal<'d>(program: &Program, dual: &'d Dual) -> Vec<Option<&'d E
 }
 
 /// Whether each of the folds of an 08 field has a listed literal that holds (x
-/// from T(j), not(x) from the set itself).
+/// from T(j), not(x) from the set itself). A listed u never holds.
 fn backs(entry: &Entry, true_set: &JudgedSet, set: &JudgedSet) -> bool {
-    let holds = |literal: &Literal| match literal.form() {
-        Form::Objective(objective) => true_set.contains(objective),
-        Form::Not(objective) => set.contains(objective),
+    let holds = |literal: &BodyLiteral| match literal {
+        BodyLiteral::Literal(literal) => match literal.form() {
+            Form::Objective(objective) => true_set.contains(objective),
+            Form::Not(objective) => set.contains(objective),
+        },
+        BodyLiteral::Undefined => false,
     };
     let mut foldings = entry.foldings.iter();
     foldings.all(|folding| folding.conjugates.iter().any(holds))

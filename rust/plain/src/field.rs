@@ -14,7 +14,7 @@ pub const MOST_ATOMS: u16 = 256;
 pub const MOST_ABDUCIBLES: usize = 16;
 pub const MOST_RULES: usize = 1024;
 pub const MOST_INTEGRITY_RULES: usize = 256;
-/// Of a rule's or an integrity rule's body, and of a query.
+/// Of a rule's or an integrity rule's body, where u counts as one, and of a query.
 pub const MOST_LITERALS: usize = 16;
 
 /// The tags of the two papers.

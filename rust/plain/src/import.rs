@@ -9,7 +9,7 @@
 use std::collections::BTreeSet;
 
 use crate::field::{MOST_ABDUCIBLES, MOST_INTEGRITY_RULES, MOST_LITERALS, MOST_RULES};
-use crate::numbering::{Atom, Form, Literal, ObjectiveLiteral};
+use crate::numbering::{Atom, BodyLiteral, Form, Literal, ObjectiveLiteral};
 use crate::program::{Program, Rule};
 use crate::refusal::{ImportRefusal, Number, TextRefusal};
 use crate::tokens::{split, Placed, Token, Tokens};
@@ -107,7 +107,7 @@ fn rules(lines: &[Line], abducibles: &[Atom]) -> Result<Vec<Rule>, TextRefusal> 
 }
 
 /// Each field 05: its count, its length.
-fn integrity_bodies(lines: &[Line]) -> Result<Vec<Vec<Literal>>, TextRefusal> {
+fn integrity_bodies(lines: &[Line]) -> Result<Vec<Vec<BodyLiteral>>, TextRefusal> {
     let mut bodies = Vec::new();
     for line in lines {
         if let Content::IntegrityRule(body) = &line.content {
@@ -132,7 +132,7 @@ enum Content {
     /// `p3 :- -p1, not p0.` is a rule, `p2.` is a fact.
     Rule(Rule),
     /// `false :- p1.` is an integrity rule, `false.` is one with no literals.
-    IntegrityRule(Vec<Literal>),
+    IntegrityRule(Vec<BodyLiteral>),
 }
 
 impl Line {
@@ -188,13 +188,14 @@ impl Reader<'_> {
         Ok(content)
     }
 
-    /// None where there is no `:-`. After `:-` stands at least one literal.
-    fn body(&mut self) -> Result<Vec<Literal>, TextRefusal> {
+    /// None where there is no `:-`. After `:-` stands at least one literal; u can't
+    /// be typed.
+    fn body(&mut self) -> Result<Vec<BodyLiteral>, TextRefusal> {
         let mut body = Vec::new();
         if self.takes(Token::If) {
-            body.push(self.literal()?);
+            body.push(self.literal()?.into());
             while self.takes(Token::Comma) {
-                body.push(self.literal()?);
+                body.push(self.literal()?.into());
             }
         }
         Ok(body)

@@ -13,8 +13,9 @@
 //! * "The search" is [`search`], and what the desk program prints [`mod@desk`].
 //!
 //! Of document 02, Card 1 is [`held`], which [`search`] goes by, Card 3 is
-//! [`Model::is_contradictory`], which [`Model::explains`] goes by, and Card 4 is
-//! [`mod@import`], which goes by the tokens of [`tokens`].
+//! [`Model::is_contradictory`], which [`Model::explains`] goes by, Card 4 is
+//! [`mod@import`], which goes by the tokens of [`tokens`], and Card 5 is
+//! [`BodyLiteral`], of which the bodies of a [`Program`] are made.
 
 #![forbid(unsafe_code)]
 
@@ -41,7 +42,7 @@ pub use falsity::next_false_by_dual;
 pub use held::Held;
 pub use import::{import, import_text};
 pub use model::{explains, judge, model, Interpretation, Judgement, Model};
-pub use numbering::{Atom, Fold, Form, Literal, ObjectiveLiteral};
+pub use numbering::{Atom, BodyLiteral, Fold, Form, Literal, ObjectiveLiteral, UNDEFINED};
 pub use program::{Program, Query, Rule};
 pub use read::{read_file, read_papers, read_sheet, rest_of_paper};
 pub use refusal::{

@@ -1,9 +1,10 @@
 //! Scenarios and the model: Definitions 2.1 and 2.2 of document 000 as
-//! document 01 words them, and judging, whose verdict Card 3 of document 02,
-//! "Explanations that rest on a contradiction", makes stricter.
+//! document 01 words them, with the constant u of Card 5 of document 02, and
+//! judging, whose verdict Card 3, "Explanations that rest on a contradiction",
+//! makes stricter.
 
 use crate::dual::dual;
-use crate::numbering::{Form, Literal, ObjectiveLiteral};
+use crate::numbering::{BodyLiteral, Form, Literal, ObjectiveLiteral};
 use crate::program::{Program, Query};
 use crate::read::read_papers;
 use crate::refusal::JudgeRefusal;
@@ -42,38 +43,41 @@ impl Interpretation {
 
 /// T(j+1): the least set holding the true abducible literals and every head
 /// whose body has its objective literals in T(j+1) and its not(o) with o in
-/// F(j).
+/// F(j). u never holds, so a body with it does not either.
 pub fn next_true(program: &Program, valuation: &Valuation, now: &Interpretation) -> JudgedSet {
     let is_given = |literal| valuation.of(literal) == Some(Value::True);
     let not_holds = |literal| now.false_set.contains(literal);
+    let undefined_passes = false;
     let is_barred = |_| false;
-    least_set(program, is_given, not_holds, is_barred)
+    least_set(program, is_given, not_holds, undefined_passes, is_barred)
 }
 
 /// P(j+1): the least set holding each objective literal o whose conjugate is
 /// not in T(j) and which is a true or undefined abducible literal, or heads a
 /// rule whose objective literals are in P(j+1) and whose not(g) have g outside
-/// T(j).
+/// T(j). u never fails, so it blocks no rule.
 pub fn next_possible(program: &Program, valuation: &Valuation, now: &Interpretation) -> JudgedSet {
     let is_given = |literal| {
         let value = valuation.of(literal);
         value == Some(Value::True) || value == Some(Value::Undefined)
     };
     let not_holds = |literal| !now.true_set.contains(literal);
+    let undefined_passes = true;
     let is_barred = |literal: ObjectiveLiteral| {
         let conjugate = literal.conjugate(program.atoms);
         conjugate.is_some_and(|conjugate| now.true_set.contains(conjugate))
     };
-    least_set(program, is_given, not_holds, is_barred)
+    least_set(program, is_given, not_holds, undefined_passes, is_barred)
 }
 
 /// The least set holding each objective literal that is not barred and is
-/// given, or heads a rule whose objective literals are in the set and whose
-/// not(o) hold.
+/// given, or heads a rule whose objective literals are in the set, whose not(o)
+/// hold and whose u, where it has any, passes.
 fn least_set(
     program: &Program,
     is_given: impl Fn(ObjectiveLiteral) -> bool,
     not_holds: impl Fn(ObjectiveLiteral) -> bool,
+    undefined_passes: bool,
     is_barred: impl Fn(ObjectiveLiteral) -> bool,
 ) -> JudgedSet {
     let mut set = JudgedSet::empty(program.atoms);
@@ -85,11 +89,14 @@ fn least_set(
     loop {
         let mut has_grown = false;
         for (_, head, body) in program.folds() {
-            let holds = |literal: &Literal| match literal.form() {
-                Form::Objective(objective) => set.contains(objective),
-                Form::Not(objective) => not_holds(objective),
+            let passes = |literal: &BodyLiteral| match literal {
+                BodyLiteral::Literal(literal) => match literal.form() {
+                    Form::Objective(objective) => set.contains(objective),
+                    Form::Not(objective) => not_holds(objective),
+                },
+                BodyLiteral::Undefined => undefined_passes,
             };
-            if !set.contains(head) && !is_barred(head) && body.iter().all(holds) {
+            if !set.contains(head) && !is_barred(head) && body.iter().all(passes) {
                 set.insert(head);
                 has_grown = true;
             }

@@ -1,7 +1,8 @@
 //! The numberings of atoms, objective literals, literals and folds.
 //!
 //! They never stand for one another, so each has a type of its own. In all of
-//! them `atoms` is the atom count n.
+//! them `atoms` is the atom count n. What stands in a body is a literal or the
+//! constant u, which has no place in any of them.
 
 /// Atom a, from 0 to n-1.
 #[derive(Clone, Copy, Debug, PartialEq, Eq, PartialOrd, Ord, Hash)]
@@ -106,6 +107,59 @@ impl Literal {
         } else {
             Literal(self.0 - 1)
         }
+    }
+}
+
+/// What stands in a body: a literal, or the constant u of document 000 (Card 5 of
+/// document 02). A query has literals alone.
+#[derive(Clone, Copy, Debug, PartialEq, Eq, PartialOrd, Ord, Hash)]
+pub enum BodyLiteral {
+    Literal(Literal),
+    /// u, which never holds and never fails.
+    Undefined,
+}
+
+/// What u is written as. Since 4n is at most 1024, it is no literal's number.
+pub const UNDEFINED: u16 = 0xFFFF;
+
+impl BodyLiteral {
+    /// Reading a body literal yields a number or the constant.
+    pub fn read(number: u16) -> Self {
+        if number == UNDEFINED {
+            BodyLiteral::Undefined
+        } else {
+            BodyLiteral::Literal(Literal(number))
+        }
+    }
+
+    /// What it is read from.
+    pub fn number(self) -> u16 {
+        match self {
+            BodyLiteral::Literal(literal) => literal.0,
+            BodyLiteral::Undefined => UNDEFINED,
+        }
+    }
+
+    /// u is, whatever the atom count.
+    pub fn is_listed(self, atoms: u16) -> bool {
+        match self {
+            BodyLiteral::Literal(literal) => literal.is_listed(atoms),
+            BodyLiteral::Undefined => true,
+        }
+    }
+
+    /// That of u is itself.
+    pub fn default_conjugate(self) -> Self {
+        match self {
+            BodyLiteral::Literal(literal) => BodyLiteral::Literal(literal.default_conjugate()),
+            BodyLiteral::Undefined => BodyLiteral::Undefined,
+        }
+    }
+}
+
+impl From<Literal> for BodyLiteral {
+    fn from(literal: Literal) -> Self {
+        BodyLiteral::Literal(literal)
     }
 }
 

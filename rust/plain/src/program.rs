@@ -1,6 +1,6 @@
 //! What the two papers say: a program and a query.
 
-use crate::numbering::{Atom, Fold, Literal, ObjectiveLiteral};
+use crate::numbering::{Atom, BodyLiteral, Fold, Literal, ObjectiveLiteral};
 
 /// The content of a file.
 #[derive(Clone, Debug, PartialEq, Eq)]
@@ -12,13 +12,13 @@ pub struct Program {
     /// The rules in file order.
     pub rules: Vec<Rule>,
     /// The bodies of the integrity rules in file order; their head is falsum.
-    pub integrity_bodies: Vec<Vec<Literal>>,
+    pub integrity_bodies: Vec<Vec<BodyLiteral>>,
 }
 
 impl Program {
     /// The fold number, head and body of each rule and integrity rule, by
     /// rising fold number.
-    pub fn folds(&self) -> impl Iterator<Item = (Fold, ObjectiveLiteral, &[Literal])> {
+    pub fn folds(&self) -> impl Iterator<Item = (Fold, ObjectiveLiteral, &[BodyLiteral])> {
         let falsum = ObjectiveLiteral::falsum(self.atoms);
         let rules = self.rules.iter().map(|rule| (rule.head, &rule.body[..]));
         let integrity_rules = self
@@ -31,11 +31,12 @@ impl Program {
     }
 }
 
-/// A rule that is not an integrity rule. An empty body is true.
+/// A rule that is not an integrity rule. An empty body is true; u alone is no empty
+/// body.
 #[derive(Clone, Debug, PartialEq, Eq)]
 pub struct Rule {
     pub head: ObjectiveLiteral,
-    pub body: Vec<Literal>,
+    pub body: Vec<BodyLiteral>,
 }
 
 /// The content of a sheet. An empty query is true.

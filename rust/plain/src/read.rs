@@ -6,7 +6,7 @@
 //! the count, which only rules and integrity rules have.
 
 use crate::field::{Tag, EDITION, HEADING, MOST_ATOMS, MOST_INTEGRITY_RULES, MOST_RULES};
-use crate::numbering::{Atom, Literal, ObjectiveLiteral};
+use crate::numbering::{Atom, BodyLiteral, Literal, ObjectiveLiteral};
 use crate::program::{Program, Query, Rule};
 use crate::refusal::{Number, Paper, Refusal};
 
@@ -103,7 +103,7 @@ fn read_rule(
     let head = ObjectiveLiteral(two_byte_number(head));
     field.require(head.is_listed(atoms), Number::Unlisted)?;
     field.require(!abducibles.contains(&head.atom()), Number::FixedFault)?;
-    let body = read_literals(&field, body, atoms)?;
+    let body = read_body(&field, body, atoms)?;
     Ok(Rule { head, body })
 }
 
@@ -113,16 +113,22 @@ fn read_integrity_rule(
     reader: &mut Reader,
     before: usize,
     atoms: u16,
-) -> Result<Vec<Literal>, Refusal> {
+) -> Result<Vec<BodyLiteral>, Refusal> {
     let heading = reader.heading_of(Tag::IntegrityRule)?;
     reader.require(before < MOST_INTEGRITY_RULES, Number::Overfull)?;
     let field = reader.content_of(Tag::IntegrityRule, heading)?;
-    read_literals(&field, field.content, atoms)
+    read_body(&field, field.content, atoms)
 }
 
 fn read_query(reader: &mut Reader, atoms: u16) -> Result<Vec<Literal>, Refusal> {
     let field = reader.field(Tag::Query)?;
-    read_literals(&field, field.content, atoms)
+    let mut literals = Vec::new();
+    for number in field.numbers() {
+        let literal = Literal(number);
+        field.require(literal.is_listed(atoms), Number::Unlisted)?;
+        literals.push(literal);
+    }
+    Ok(literals)
 }
 
 fn read_end(reader: &mut Reader) -> Result<(), Refusal> {
@@ -130,15 +136,15 @@ fn read_end(reader: &mut Reader) -> Result<(), Refusal> {
     reader.require(reader.is_at_end(), Number::Tail)
 }
 
-/// Reads the literals in `part`, which belongs to the content of `field`.
-fn read_literals(field: &Field, part: &[u8], atoms: u16) -> Result<Vec<Literal>, Refusal> {
-    let mut literals = Vec::new();
+/// Reads the body in `part`, which belongs to the content of `field`.
+fn read_body(field: &Field, part: &[u8], atoms: u16) -> Result<Vec<BodyLiteral>, Refusal> {
+    let mut body = Vec::new();
     for number in two_byte_numbers(part) {
-        let literal = Literal(number);
+        let literal = BodyLiteral::read(number);
         field.require(literal.is_listed(atoms), Number::Unlisted)?;
-        literals.push(literal);
+        body.push(literal);
     }
-    Ok(literals)
+    Ok(body)
 }
 
 /// A paper and how far it has been read.

@@ -18,7 +18,7 @@ pub enum Number {
     Edition = 4,
     /// 0 or above 256.
     AtomCount = 5,
-    /// Atom not below n, head not below 2n, literal not below 4n.
+    /// Atom not below n, head not below 2n, literal not below 4n, save u in a body.
     Unlisted = 6,
     /// Abducible not above the one before.
     Disorder = 7,

@@ -7,7 +7,7 @@ use std::iter::once;
 
 use crate::dual::Dual;
 use crate::field::{DualTag, Tag, EDITION};
-use crate::numbering::Literal;
+use crate::numbering::BodyLiteral;
 use crate::program::{Program, Query};
 
 pub fn encode_file(program: &Program) -> Vec<u8> {
@@ -17,11 +17,11 @@ pub fn encode_file(program: &Program) -> Vec<u8> {
     let abducibles = program.abducibles.iter().map(|atom| atom.0);
     put_numbers(&mut file, Tag::Abducibles.byte(), abducibles);
     for rule in &program.rules {
-        let numbers = once(rule.head.0).chain(literal_numbers(&rule.body));
+        let numbers = once(rule.head.0).chain(body_numbers(&rule.body));
         put_numbers(&mut file, Tag::Rule.byte(), numbers);
     }
     for body in &program.integrity_bodies {
-        put_numbers(&mut file, Tag::IntegrityRule.byte(), literal_numbers(body));
+        put_numbers(&mut file, Tag::IntegrityRule.byte(), body_numbers(body));
     }
     put_field(&mut file, Tag::End.byte(), &[]);
     file
@@ -29,11 +29,8 @@ pub fn encode_file(program: &Program) -> Vec<u8> {
 
 pub fn encode_sheet(query: &Query) -> Vec<u8> {
     let mut sheet = Vec::new();
-    put_numbers(
-        &mut sheet,
-        Tag::Query.byte(),
-        literal_numbers(&query.literals),
-    );
+    let literals = query.literals.iter().map(|literal| literal.0);
+    put_numbers(&mut sheet, Tag::Query.byte(), literals);
     put_field(&mut sheet, Tag::End.byte(), &[]);
     sheet
 }
@@ -45,7 +42,7 @@ pub fn encode_dual(dual: &Dual) -> Vec<u8> {
         let numbers = once(entry.literal.0).chain(folds);
         put_numbers(&mut bytes, DualTag::Entry.byte(), numbers);
         for folding in &entry.foldings {
-            let numbers = once(folding.fold.0).chain(literal_numbers(&folding.conjugates));
+            let numbers = once(folding.fold.0).chain(body_numbers(&folding.conjugates));
             put_numbers(&mut bytes, DualTag::Folding.byte(), numbers);
         }
     }
@@ -53,8 +50,8 @@ pub fn encode_dual(dual: &Dual) -> Vec<u8> {
     bytes
 }
 
-fn literal_numbers(literals: &[Literal]) -> impl Iterator<Item = u16> + '_ {
-    literals.iter().map(|literal| literal.0)
+fn body_numbers(body: &[BodyLiteral]) -> impl Iterator<Item = u16> + '_ {
+    body.iter().map(|literal| literal.number())
 }
 
 fn put_numbers(bytes: &mut Vec<u8>, tag: u8, numbers: impl Iterator<Item = u16>) {

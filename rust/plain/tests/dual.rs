@@ -5,10 +5,10 @@
 mod hand;
 
 use calls::lent::pattern;
-use hand::{bytes, literals};
+use hand::{body_literals, bytes};
 use plain::{
-    dual, encode_dual, encode_file, read_file, write_dual, Dual, Entry, Fold, Folding, Literal,
-    Number, ObjectiveLiteral, Paper, Program, Refusal, Rule, WriteRefusal,
+    dual, encode_dual, encode_file, read_file, write_dual, BodyLiteral, Dual, Entry, Fold, Folding,
+    Literal, Number, ObjectiveLiteral, Paper, Program, Refusal, Rule, WriteRefusal,
 };
 
 /// a, b, c = 0, 1, 2; c :- not b; b :- a; -b; a :- not a.
@@ -74,7 +74,7 @@ fn the_content_of_the_dual_of_example_2_1() {
         literal: ObjectiveLiteral(literal),
         foldings: vec![Folding {
             fold: Fold(fold),
-            conjugates: literals(&[conjugate]),
+            conjugates: body_literals(&[conjugate]),
         }],
     };
     let without_rules = |literal| Entry {
@@ -255,7 +255,52 @@ fn each_body_literal_has_its_default_conjugate_in_order() {
         assert_ne!(conjugate, Literal(number));
         assert_eq!(conjugate.0 / 2, number / 2);
         assert_eq!(conjugate.default_conjugate(), Literal(number));
+        let in_body = BodyLiteral::Literal(Literal(number));
+        assert_eq!(in_body.default_conjugate(), BodyLiteral::Literal(conjugate));
     }
+}
+
+#[test]
+fn the_constant_is_its_own_default_conjugate() {
+    let u = BodyLiteral::Undefined;
+    assert_eq!(u.default_conjugate(), u);
+    let body = "FFFF 0007 FFFF FFFF 0000";
+    let conjugates = "FFFF 0006 FFFF FFFF 0001";
+    is_dual(
+        &[TWO_ATOMS, "04 000C 0001", body, "05 000A", body, END],
+        &[
+            "08 0002 0000",
+            "08 0004 0001 0000 09 000C 0000",
+            conjugates,
+            "08 0002 0002 08 0002 0003",
+            "08 0004 0004 0001 09 000C 0001",
+            conjugates,
+            END,
+        ],
+    );
+}
+
+#[test]
+fn a_head_keeps_its_entry_where_the_constant_is_its_whole_body() {
+    is_dual(
+        &[ONE_ATOM, "04 0004 0000 FFFF", END],
+        &[
+            "08 0004 0000 0000 09 0004 0000 FFFF",
+            "08 0002 0001 08 0002 0002",
+            END,
+        ],
+    );
+    is_dual(
+        &[ONE_ATOM, "05 0002 FFFF", END],
+        &[
+            "08 0002 0000 08 0002 0001",
+            "08 0004 0002 0000 09 0004 0000 FFFF",
+            END,
+        ],
+    );
+    // Not where it has an empty body besides.
+    let rules = "04 0004 0000 FFFF 04 0002 0000 05 0000 05 0002 FFFF";
+    is_dual(&[ONE_ATOM, rules, END], &["08 0002 0001", END]);
 }
 
 #[test]
@@ -297,10 +342,11 @@ fn an_entry_can_have_every_rule() {
     );
 }
 
-#[test]
-fn the_longest_dual() {
-    let sixteen = vec![Literal(1023); 16];
-    let program = Program {
+/// A program with as many rules and literals as there is room for, each literal
+/// having this number.
+fn fullest(literal: u16) -> Program {
+    let sixteen = body_literals(&[literal; 16]);
+    Program {
         atoms: 256,
         abducibles: vec![],
         rules: (0..1024)
@@ -310,19 +356,29 @@ fn the_longest_dual() {
             })
             .collect(),
         integrity_bodies: vec![sixteen; 256],
-    };
-    let file = encode_file(&program);
-    let written = encode_dual(&dual(&program));
+    }
+}
+
+#[test]
+fn the_longest_dual() {
+    for (literal, conjugate) in [(1023, "03FE"), (0xFFFF, "FFFF")] {
+        is_longest(&fullest(literal), conjugate);
+    }
+}
+
+fn is_longest(program: &Program, conjugate: &str) {
+    let written = encode_dual(&dual(program));
     // An 08 field for each objective literal and falsum; for each rule and
     // integrity rule a fold number there and a 09 field of 17 numbers; the end.
     let length = 513 * (3 + 2) + 1280 * 2 + 1280 * (3 + 2 * 17) + 3;
     assert_eq!(length, 52_488);
     assert_eq!(written.len(), length);
     assert_eq!(plain::dual::LONGEST_DUAL, length);
-    is_written(&file, &written);
-    let first = "08 0006 0000 0000 0200  09 0022 0000 03FE 03FE";
-    assert!(written.starts_with(&bytes(&[first])));
-    let last = ["09 0022 04FF", &"03FE".repeat(16), END];
+    is_written(&encode_file(program), &written);
+    let conjugates = conjugate.repeat(16);
+    let first = ["08 0006 0000 0000 0200  09 0022 0000", &conjugates];
+    assert!(written.starts_with(&bytes(&first)));
+    let last = ["09 0022 04FF", &conjugates, END];
     assert!(written.ends_with(&bytes(&last)));
 }
 

@@ -5,7 +5,7 @@
 mod hand;
 
 use calls::lent::pattern;
-use hand::{bytes, literals};
+use hand::{body_literals, bytes};
 use plain::{
     encode_file, import, import_text, read_file, Atom, ImportRefusal, Number, ObjectiveLiteral,
     Program, Rule, TextRefusal,
@@ -135,13 +135,13 @@ fn rules_and_integrity_rules_keep_their_order_wherever_the_lines_stand() {
         abducible p3.";
     let rule = |head, body: &[u16]| Rule {
         head: ObjectiveLiteral(head),
-        body: literals(body),
+        body: body_literals(body),
     };
     let expected = Program {
         atoms: 4,
         abducibles: vec![Atom(2), Atom(3)],
         rules: vec![rule(3, &[]), rule(0, &[7, 1, 1]), rule(3, &[])],
-        integrity_bodies: vec![literals(&[4, 0]), vec![], literals(&[8])],
+        integrity_bodies: vec![body_literals(&[4, 0]), vec![], body_literals(&[8])],
     };
     assert_eq!(accepted(text), expected);
 }
@@ -434,11 +434,11 @@ fn sixteen_different_abducibles_pass_and_seventeen_do_not() {
 fn sixteen_literals_pass_and_seventeen_do_not() {
     for head in ["p1", "-p1"] {
         let program = accepted(with_literals(head, 16));
-        assert_eq!(program.rules[0].body, literals(&[1; 16]));
+        assert_eq!(program.rules[0].body, body_literals(&[1; 16]));
         is_refused(Number::Misfit, 0, with_literals(head, 17));
     }
     let program = accepted(with_literals("false", 16));
-    assert_eq!(program.integrity_bodies, [literals(&[1; 16])]);
+    assert_eq!(program.integrity_bodies, [body_literals(&[1; 16])]);
     is_refused(Number::Misfit, 0, with_literals("false", 17));
     // The place is that of the line, whatever stands before it.
     let line = with_literals("-p1", 17);

@@ -8,10 +8,10 @@ mod hand;
 
 use checks::{file_accepted, file_refused, sheet_accepted, sheet_refused};
 use checks::{END, ONE_FIXED, TWO_ATOMS};
-use hand::{bytes, literals};
+use hand::{body_literals, bytes};
 use plain::{
-    encode_file, encode_sheet, read_file, read_papers, read_sheet, rest_of_paper, Atom, Number,
-    ObjectiveLiteral, Program, Query, Rule,
+    encode_file, encode_sheet, read_file, read_papers, read_sheet, rest_of_paper, Atom, Literal,
+    Number, ObjectiveLiteral, Program, Query, Rule,
 };
 
 #[test]
@@ -23,12 +23,12 @@ fn the_example_of_document_01() {
         abducibles: vec![Atom(1)],
         rules: vec![Rule {
             head: ObjectiveLiteral(0),
-            body: literals(&[4]),
+            body: body_literals(&[4]),
         }],
         integrity_bodies: vec![],
     };
     let query = Query {
-        literals: literals(&[0]),
+        literals: vec![Literal(0)],
     };
     assert_eq!(encode_file(&program), file);
     assert_eq!(encode_sheet(&query), sheet);
@@ -178,6 +178,43 @@ fn refusal_6_with_256_atoms() {
 }
 
 #[test]
+fn refusal_6_of_ffff_anywhere_but_in_a_body() {
+    file_accepted(&[TWO_ATOMS, "04 0004 0000 FFFF", END]);
+    file_accepted(&[TWO_ATOMS, "05 0002 FFFF", END]);
+    let atom = ["01 0001 01 02 0002 0002 03 0002 FFFF", END];
+    file_refused(Number::Unlisted, 9, &atom);
+    file_refused(Number::Unlisted, 12, &[TWO_ATOMS, "04 0002 FFFF", END]);
+    let head_and_body = [TWO_ATOMS, "04 0004 FFFF FFFF", END];
+    file_refused(Number::Unlisted, 12, &head_and_body);
+    sheet_refused(Number::Unlisted, 0, &["06 0002 FFFF", END]);
+    sheet_refused(Number::Unlisted, 0, &["06 0004 0000 FFFF", END]);
+    sheet_refused(Number::Unlisted, 0, &["06 0004 FFFF 0000", END]);
+    // What stands after it in a body is tested as before.
+    let body = [TWO_ATOMS, "04 0008 0000 FFFF 0008 FFFF", END];
+    file_refused(Number::Unlisted, 12, &body);
+    let integrity = [TWO_ATOMS, "05 0004 FFFF 0008", END];
+    file_refused(Number::Unlisted, 12, &integrity);
+}
+
+#[test]
+fn refusal_6_of_fffe_everywhere() {
+    for atoms in [1, 2, 256] {
+        let header = format!("01 0001 01 02 0002 {atoms:04X}");
+        for near in ["FFFE", "FEFF", "FF7F", "7FFF", "FF00"] {
+            let rest = format!("03 0002 {near}");
+            file_refused(Number::Unlisted, 9, &[&header, &rest, END]);
+            for field in ["04 0002", "04 0004 0000", "04 0006 0000 FFFF", "05 0002"] {
+                let rest = format!("03 0000 {field} {near}");
+                file_refused(Number::Unlisted, 12, &[&header, &rest, END]);
+            }
+            let sheet = bytes(&["06 0002", near, END]);
+            let refusal = read_sheet(atoms, &sheet).unwrap_err();
+            assert_eq!((refusal.number, refusal.place), (Number::Unlisted, 0));
+        }
+    }
+}
+
+#[test]
 fn refusal_7_disorder() {
     let three_atoms = "01 0001 01 02 0002 0003";
     file_accepted(&[three_atoms, "03 0006 0000 0001 0002", END]);
@@ -203,6 +240,8 @@ fn refusal_8_fixed_fault() {
     // The head is tested before the body.
     let both = [ONE_FIXED, "04 0004 0002 0008", END];
     file_refused(Number::FixedFault, 14, &both);
+    let with_undefined = [ONE_FIXED, "04 0004 0002 FFFF", END];
+    file_refused(Number::FixedFault, 14, &with_undefined);
 }
 
 #[test]
@@ -239,7 +278,7 @@ fn refusal_9_overfull_integrity_rules() {
     refused(Number::StrayField, "04 0002 0000");
     refused(Number::Overfull, "05 0001 00");
     refused(Number::Overfull, "05 0002 00");
-    refused(Number::Overfull, "05 0002 FFFF");
+    refused(Number::Overfull, "05 0002 FFFE");
 }
 
 #[test]

@@ -8,10 +8,10 @@ mod hand;
 
 use checks::{file_accepted, file_refused, sheet_accepted, sheet_refused};
 use checks::{END, ONE_FIXED, TWO_ATOMS};
-use hand::{bytes, literals};
+use hand::{body_literals, bytes};
 use plain::{
-    encode_file, read_file, read_papers, read_sheet, rest_of_paper, Atom, Number, ObjectiveLiteral,
-    Paper, Program, Refusal, Rule,
+    encode_file, read_file, read_papers, read_sheet, rest_of_paper, Atom, BodyLiteral, Literal,
+    Number, ObjectiveLiteral, Paper, Program, Refusal, Rule,
 };
 
 #[test]
@@ -34,12 +34,36 @@ fn rules_and_integrity_rules_keep_their_order() {
             },
             Rule {
                 head: ObjectiveLiteral(0),
-                body: literals(&[7, 1]),
+                body: body_literals(&[7, 1]),
             },
         ],
-        integrity_bodies: vec![vec![], literals(&[2, 6])],
+        integrity_bodies: vec![vec![], body_literals(&[2, 6])],
     };
     assert_eq!(program, expected);
+}
+
+#[test]
+fn a_body_literal_is_a_number_or_the_constant() {
+    let program = file_accepted(&[
+        TWO_ATOMS,
+        "04 0004 0000 FFFF",
+        "04 0008 0003 FFFF 0007 FFFF",
+        "05 0002 FFFF",
+        "05 0004 0002 FFFF",
+        END,
+    ]);
+    let u = BodyLiteral::Undefined;
+    let literal = |number| BodyLiteral::Literal(Literal(number));
+    let bodies: Vec<_> = program.rules.iter().map(|rule| &rule.body[..]).collect();
+    assert_eq!(bodies, [&[u][..], &[u, literal(7), u]]);
+    assert_eq!(program.integrity_bodies, [vec![u], vec![literal(2), u]]);
+
+    assert_eq!(BodyLiteral::read(0xFFFF), u);
+    assert_eq!(u.number(), 0xFFFF);
+    for number in 0..0xFFFF {
+        assert_eq!(BodyLiteral::read(number), literal(number));
+        assert_eq!(literal(number).number(), number);
+    }
 }
 
 #[test]
@@ -79,6 +103,21 @@ fn sixteen_literals_pass_and_seventeen_do_not() {
 }
 
 #[test]
+fn the_constant_counts_as_one_of_the_sixteen() {
+    for undefined in [1, 8, 15, 16] {
+        let sixteen = ["0001".repeat(16 - undefined), "FFFF".repeat(undefined)].concat();
+        file_accepted(&[TWO_ATOMS, "04 0022 0000", &sixteen, END]);
+        file_accepted(&[TWO_ATOMS, "05 0020", &sixteen, END]);
+        for one_more in ["FFFF", "0001"] {
+            let rule = [TWO_ATOMS, "04 0024 0000", one_more, &sixteen, END];
+            file_refused(Number::Misfit, 12, &rule);
+            let integrity = [TWO_ATOMS, "05 0022", one_more, &sixteen, END];
+            file_refused(Number::Misfit, 12, &integrity);
+        }
+    }
+}
+
+#[test]
 fn tests_of_a_field_come_in_order() {
     // Heading (1) before tag (2).
     file_refused(Number::Cut, 0, &["FF 00"]);
@@ -88,7 +127,7 @@ fn tests_of_a_field_come_in_order() {
     file_refused(Number::Misfit, 0, &["01 FFFF"]);
     file_refused(Number::Misfit, 12, &[TWO_ATOMS, "05 0022 0000"]);
     // Content whole (1) before content (4 to 8).
-    file_refused(Number::Cut, 12, &[TWO_ATOMS, "05 0004 FFFF 00"]);
+    file_refused(Number::Cut, 12, &[TWO_ATOMS, "05 0004 FFFE 00"]);
     file_refused(Number::Cut, 14, &[ONE_FIXED, "04 0004 0002 00"]);
     sheet_refused(Number::Cut, 0, &["06 0004 FFFF 00"]);
     // An earlier field before a later one.

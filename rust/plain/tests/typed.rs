@@ -4,8 +4,8 @@
 use std::collections::BTreeSet;
 
 use plain::{
-    encode_file, import, import_text, read_file, Atom, Literal, Number, ObjectiveLiteral, Program,
-    Rule, TextRefusal,
+    encode_file, import, import_text, read_file, Atom, BodyLiteral, Literal, Number,
+    ObjectiveLiteral, Program, Rule, TextRefusal,
 };
 use random::seed::seed;
 use random::Random;
@@ -29,12 +29,12 @@ fn program(random: &mut Random) -> Program {
         }
     }
     let bodies = (0..random.below(4)).map(|_| body(random, &atoms));
-    let integrity_bodies: Vec<Vec<Literal>> = bodies.collect();
+    let integrity_bodies: Vec<Vec<BodyLiteral>> = bodies.collect();
 
     let in_heads = rules.iter().map(|rule| rule.head.0 / 2);
     let in_rules = rules.iter().flat_map(|rule| &rule.body);
     let in_bodies = in_rules.chain(integrity_bodies.iter().flatten());
-    let named = in_heads.chain(in_bodies.map(|literal| literal.0 / 4));
+    let named = in_heads.chain(in_bodies.map(|literal| literal.number() / 4));
     let greatest = named.chain(abducibles.iter().copied()).max();
     abducibles.sort_unstable();
     Program {
@@ -45,21 +45,23 @@ fn program(random: &mut Random) -> Program {
     }
 }
 
-fn body(random: &mut Random, atoms: &[u16]) -> Vec<Literal> {
+/// u can't be typed.
+fn body(random: &mut Random, atoms: &[u16]) -> Vec<BodyLiteral> {
     let count = random.pick(&[0, 1, 2, 16]);
     let literal = |_| Literal(4 * random.pick(atoms) + random.below(4) as u16);
-    (0..count).map(literal).collect()
+    (0..count).map(literal).map(BodyLiteral::from).collect()
 }
 
 /// The tokens of a line with this head.
-fn line(head: Vec<String>, body: &[Literal]) -> Vec<String> {
+fn line(head: Vec<String>, body: &[BodyLiteral]) -> Vec<String> {
     let mut tokens = head;
     for (place, literal) in body.iter().enumerate() {
         tokens.push(if place == 0 { ":-" } else { "," }.to_string());
-        if literal.0 % 2 == 1 {
+        let number = literal.number();
+        if number % 2 == 1 {
             tokens.push("not".to_string());
         }
-        tokens.extend(objective_literal(literal.0 / 2));
+        tokens.extend(objective_literal(number / 2));
     }
     tokens.push(".".to_string());
     tokens

@@ -14,16 +14,16 @@ use Rattle.content.proofs.literals_fault.Statement.{statement}
 use Rattle.content.proofs.literals_fault.Tie as tie
 
 abbrev Inv-loop : tie.InvT-loop
-Inv-loop content atoms count i₀ i =
-    (i ≤ count) × (literalsFault atoms (numbers content) ≡ literalsFault atoms (numbers (drop (2 * i) content)))
+Inv-loop content atoms in-body count i₀ i =
+    (i ≤ count) × (literalsFault in-body atoms (numbers content) ≡ literalsFault in-body atoms (numbers (drop (2 * i) content)))
 
 abbrev μ-loop : tie.MeasureT-loop
-μ-loop content atoms count i₀ i = count - i
+μ-loop content atoms in-body count i₀ i = count - i
 
 -- ---- once the i-th literal is tested
 
-abbrev turn : tie.After-is-literal-listed Inv-loop μ-loop → tie.In-loop Inv-loop μ-loop
-turn c = c .before .before
+abbrev turn : tie.After-is-allowed Inv-loop μ-loop → tie.In-loop Inv-loop μ-loop
+turn c = c .before
 
 abbrev start : tie.At-loop Inv-loop μ-loop → tie.Start Inv-loop μ-loop
 start c = c .before .before
@@ -31,24 +31,21 @@ start c = c .before .before
 loop-holds : tie.Need-loop-holds Inv-loop μ-loop
 loop-holds c = (omega arith, refl)
 
-mul-literal-at : tie.Need-mul-literal-at Inv-loop μ-loop
-mul-literal-at c = search needs
+mul-is-allowed : tie.Need-mul-is-allowed Inv-loop μ-loop
+mul-is-allowed c = search needs
 
-literal-at-requires : tie.Need-literal-at-requires Inv-loop μ-loop
-literal-at-requires c κs = search needs
-
-is-literal-listed-requires : tie.Need-is-literal-listed-requires Inv-loop μ-loop
-is-literal-listed-requires c κs = search needs
+is-allowed-requires : tie.Need-is-allowed-requires Inv-loop μ-loop
+is-allowed-requires c κs = search needs
 
 returns : tie.Need-returns Inv-loop μ-loop
 returns c =
     let tested = c .before in
     let begun = turn tested in
     let a = start (begun .before) .args in
-    let unlisted = sym (tested .is-literal-listed .ensures) ∙ not-true _ (c .if1 .taken) in
+    let unlisted = sym (tested .is-allowed .ensures) ∙ not-true _ (c .if1 .taken) in
     sym
     (begun .before .loop .inv .1
-    ∙ literals-stop (now (a .content)) _ (a .atoms) (begun .loop-test .taken) (tested .before .literal-at .ensures .0) unlisted)
+    ∙ literals-stop (now (a .content)) _ (a .atoms) (begun .loop-test .taken) refl (a .in-body) unlisted)
 
 add-i : tie.Need-add-i Inv-loop μ-loop
 add-i c = search needs
@@ -61,16 +58,16 @@ loop-again c =
     let tested = c .before in
     let begun = turn tested in
     let a = start (begun .before) .args in
-    let listed = sym (tested .is-literal-listed .ensures) ∙ not-false _ (c .if1 .left) in (
+    let listed = sym (tested .is-allowed .ensures) ∙ not-false _ (c .if1 .left) in (
       omega arith,
       begun .before .loop .inv .1
-          ∙ literals-next (now (a .content)) _ (a .atoms) (begun .loop-test .taken) (tested .before .literal-at .ensures .0) listed,
+          ∙ literals-next (now (a .content)) _ (a .atoms) (begun .loop-test .taken) refl (a .in-body) listed,
     )
 
 returns-2 : tie.Need-returns-2 Inv-loop μ-loop
 returns-2 c =
     let a = start (c .before) .args in
-    sym (c .before .loop .inv .1 ∙ literals-done (now (a .content)) _ (a .atoms) (c .loop-test .left))
+    sym (c .before .loop .inv .1 ∙ literals-done (now (a .content)) _ (a .atoms) (a .in-body) (c .loop-test .left))
 
 pub literals-fault-spec : {M : Type 1} → statement M
 literals-fault-spec =
@@ -79,9 +76,8 @@ literals-fault-spec =
     Inv-loop
     μ-loop
     loop-holds
-    mul-literal-at
-    literal-at-requires
-    is-literal-listed-requires
+    mul-is-allowed
+    is-allowed-requires
     returns
     add-i
     loop-less

@@ -2,6 +2,7 @@
 -- Assumes nothing.
 use mathlib.Core.Path.{_≡_, sym, ap, _∙_}
 use denote.Ref.{now}
+use mathlib.Core.Bool.{true}
 use mathlib.Core.List.{List}
 use Prim.Native.Nat.{ℕ, _*_, _/_, _<_}
 use Rattle.papers.specs.Field.{numbers}
@@ -81,7 +82,7 @@ returns-3 c =
     let tested = c .before .before .before in
     let s = start (read tested) in
     c .literals-fault .ensures
-    ∙ ap (λ (l : List ℕ). literalsFault (s .args .atoms) (numbers l)) (to-end 2 (now (s .args .content)))
+    ∙ ap (λ (l : List ℕ). literalsFault true (s .args .atoms) (numbers l)) (to-end 2 (now (s .args .content)))
     ∙ sym
     (rule-body (s .args .atoms) _ (now (s .args .content)) (s .pre) (read tested .objective-at .ensures .0) (owned tested .0)
     (sym (among tested) ∙ c .before .before .if1 .left))

@@ -44,7 +44,7 @@ explained-lanes-requires : tie.Need-explained-lanes-requires
 explained-lanes-requires c κs =
     let written = c .before .before .before .before in
     let known = written .before .before .before .before in
-    (few known, rw (same known) at (query-listed (start known .pre .0 .asked)))
+    (few known, rw (same known) at (query-listed ((programIn (now (start known .args .file))) .atoms) (start known .pre .0 .asked)))
 
 array-read-first : tie.Need-array-read-first
 array-read-first c = search needs
@@ -64,7 +64,9 @@ returns c =
     let falses = s .result .model .f in
     let explained = c .explained-lanes .result in
     let e = subst (λ (n : ℕ). ExplainedWord n query trues falses explained) (sym (same known)) (c .explained-lanes .ensures) in
-    let v = verdict-lanes p (a .scenario) trues falses (s .result .rounds) (s .ensures .0) query explained (start known .pre .0 .asked) e in
+    let v =
+    verdict-lanes p (a .scenario) trues falses (s .result .rounds) (s .ensures .0) (rw (same known) (few known)) query explained
+    (start known .pre .0 .asked) e in
     let bytes = rw (known .judged .ensures) at (written .write-values .ensures) in (
       first-explained p query (a .scenario) explained (s .result .rounds) v,
       (

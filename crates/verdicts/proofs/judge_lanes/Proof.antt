@@ -26,14 +26,15 @@ settle-words-requires c κs =
 explained-lanes-requires : tie.Need-explained-lanes-requires
 explained-lanes-requires c κs =
     let s = c .before .before .before .before .before .before .before .before .before .before .before in
-    (few-atoms (now (s .args .file)) (s .args .contents) (s .pre .0 .answer), rw (atoms s) at (query-listed (s .pre .0 .asked)))
+    (few-atoms (now (s .args .file)) (s .args .contents) (s .pre .0 .answer), rw (atoms s) at (query-listed (program s .atoms) (s .pre .0 .asked)))
 
 returns : tie.Need-returns
 returns c =
     let s = c .before .before .before .before .before .before .before .before .before .before .before .before in
     let settled = c .before .before .before .settle-words in
     verdict-lanes (program s) (s .args .base) (settled .last .1 .1 .1 .1 .1 .1 .1 .0) (settled .last .1 .1 .1 .1 .1 .1 .1 .1 .0) (settled .result)
-    (settled .ensures .0) (now (s .args .query)) (c .explained-lanes .result) (s .pre .0 .asked) (rw (atoms s) (c .explained-lanes .ensures))
+    (settled .ensures .0) (rw (atoms s) (few-atoms (now (s .args .file)) (s .args .contents) (s .pre .0 .answer)))
+    (now (s .args .query)) (c .explained-lanes .result) (s .pre .0 .asked) (rw (atoms s) (c .explained-lanes .ensures))
 
 pub judge-lanes-spec : {M : Type 1} → statement M
 judge-lanes-spec = tie.close (tie.spec settle-words-requires explained-lanes-requires returns)

@@ -2,7 +2,7 @@
 //! there can be, the heads and literals at random. Its dual is the longest.
 
 use plain::field::{MOST_ATOMS, MOST_INTEGRITY_RULES, MOST_LITERALS, MOST_RULES};
-use plain::{Literal, ObjectiveLiteral, Program, Rule};
+use plain::{BodyLiteral, Literal, ObjectiveLiteral, Program, Rule};
 use random::Random;
 
 use super::Papers;
@@ -26,9 +26,9 @@ pub fn papers() -> Papers {
     Papers::without_query("largest", program)
 }
 
-fn body(random: &mut Random) -> Vec<Literal> {
+fn body(random: &mut Random) -> Vec<BodyLiteral> {
     let literals = 4 * usize::from(MOST_ATOMS);
-    let any = |_| Literal(random.below(literals) as u16);
+    let any = |_| Literal(random.below(literals) as u16).into();
     (0..MOST_LITERALS).map(any).collect()
 }
 

@@ -4,7 +4,7 @@
 
 use compare::programs::{fails, holds};
 use plain::field::MOST_ATOMS;
-use plain::{Atom, Literal, ObjectiveLiteral, Program, Rule};
+use plain::{Atom, BodyLiteral, ObjectiveLiteral, Program, Rule};
 use random::Random;
 
 use super::Papers;
@@ -49,7 +49,7 @@ fn rule(random: &mut Random, atom: u16) -> Rule {
 }
 
 /// A literal of the layer before that of the atom.
-fn literal_before(random: &mut Random, atom: u16) -> Literal {
+fn literal_before(random: &mut Random, atom: u16) -> BodyLiteral {
     let first = (atom / WIDTH - 1) * WIDTH;
     let chosen = first + random.below(WIDTH.into()) as u16;
     let objective = ObjectiveLiteral::of(Atom(chosen));
@@ -85,7 +85,7 @@ mod tests {
         for Rule { head, body } in papers().program.rules {
             let layer = head.atom().0 / WIDTH;
             for literal in body {
-                let atom = ObjectiveLiteral(literal.0 / 2).atom();
+                let atom = ObjectiveLiteral(literal.number() / 2).atom();
                 assert_eq!(atom.0 / WIDTH + 1, layer);
             }
         }

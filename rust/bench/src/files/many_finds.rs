@@ -5,7 +5,7 @@
 //! so that a search looks through much of its list for most of them.
 
 use compare::programs::holds;
-use plain::{Atom, Literal, ObjectiveLiteral, Program, Query, Rule};
+use plain::{Atom, BodyLiteral, Form, ObjectiveLiteral, Program, Query, Rule};
 
 use super::Papers;
 
@@ -26,7 +26,7 @@ pub fn papers() -> Papers {
         integrity_bodies: vec![],
     };
     let query = Query {
-        literals: vec![holds(counted(FAULTS - 1, ENOUGH))],
+        literals: vec![Form::Objective(counted(FAULTS - 1, ENOUGH)).literal()],
     };
     Papers::new("many finds", program, query)
 }
@@ -48,7 +48,7 @@ fn rules_of(fault: u16, count: u16) -> Vec<Rule> {
 
 /// The literal of a fault; every second is one where its abducible is ruled
 /// out.
-fn there(fault: u16) -> Literal {
+fn there(fault: u16) -> BodyLiteral {
     holds(if fault.is_multiple_of(2) {
         ObjectiveLiteral::of(Atom(fault))
     } else {

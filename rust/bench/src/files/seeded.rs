@@ -7,7 +7,7 @@
 //! other. All of it comes from a seed.
 
 use compare::programs::{fails, holds};
-use plain::{Atom, Literal, ObjectiveLiteral, Program, Query, Rule};
+use plain::{Atom, BodyLiteral, Form, ObjectiveLiteral, Program, Query, Rule};
 use random::Random;
 
 use super::Papers;
@@ -82,10 +82,10 @@ pub const MIDDLE_12: Shape = Shape {
 
 impl Shape {
     pub fn papers(&self) -> Papers {
-        let seen = holds(effect(self, self.seen));
-        let unseen = fails(effect(self, self.unseen));
+        let seen = Form::Objective(effect(self, self.seen));
+        let unseen = Form::Not(effect(self, self.unseen));
         let query = Query {
-            literals: vec![seen, unseen],
+            literals: vec![seen.literal(), unseen.literal()],
         };
         Papers::new(self.name, program(self), query)
     }
@@ -141,7 +141,7 @@ fn rule(random: &mut Random, shape: &Shape) -> Rule {
 
 /// A literal of a cause, or of an effect before this one; every fourth is with
 /// not, and every sixth of an explicit negation.
-fn literal(random: &mut Random, shape: &Shape, before: u16) -> Literal {
+fn literal(random: &mut Random, shape: &Shape, before: u16) -> BodyLiteral {
     let mut objective = if before == 0 || random.one_in(3) {
         cause(random, shape)
     } else {
@@ -158,7 +158,7 @@ fn literal(random: &mut Random, shape: &Shape, before: u16) -> Literal {
 }
 
 /// Two causes that exclude each other where an effect is seen.
-fn integrity_body(random: &mut Random, shape: &Shape) -> Vec<Literal> {
+fn integrity_body(random: &mut Random, shape: &Shape) -> Vec<BodyLiteral> {
     let effect = effect(shape, random.below(shape.effects.into()) as u16);
     let causes = [cause(random, shape), cause(random, shape)];
     vec![holds(causes[0]), holds(causes[1]), holds(effect)]

@@ -8,7 +8,7 @@
 
 use compare::programs::{fails, holds};
 use plain::field::{MOST_ATOMS, MOST_INTEGRITY_RULES, MOST_LITERALS, MOST_RULES};
-use plain::{Atom, Literal, ObjectiveLiteral, Program, Rule};
+use plain::{Atom, BodyLiteral, ObjectiveLiteral, Program, Rule};
 
 use super::Papers;
 
@@ -25,7 +25,7 @@ fn links() -> Vec<ObjectiveLiteral> {
 
 /// The rule of each link but the first, with what its body begins with. They
 /// stand against the chain, so that a pass in the file's order gives one link.
-fn against_the_chain(links: &[ObjectiveLiteral], begin: &[Literal]) -> Vec<Rule> {
+fn against_the_chain(links: &[ObjectiveLiteral], begin: &[BodyLiteral]) -> Vec<Rule> {
     let pairs = links.windows(2).rev();
     pairs
         .map(|pair| {

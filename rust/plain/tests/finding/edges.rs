@@ -1,7 +1,7 @@
 //! Programs as large as a file can hold.
 
 use calls::lent::list_pattern;
-use plain::{Atom, Literal, ObjectiveLiteral, Program, Query, Rule, State};
+use plain::{Atom, BodyLiteral, Literal, ObjectiveLiteral, Program, Query, Rule, State};
 use random::seed::seed;
 use random::Random;
 
@@ -13,7 +13,7 @@ const RULES: usize = 1_024;
 const INTEGRITY_RULES: usize = 256;
 const BODY: usize = 16;
 
-fn full(rules: Vec<Rule>, integrity_body: Vec<Literal>) -> Program {
+fn full(rules: Vec<Rule>, integrity_body: Vec<BodyLiteral>) -> Program {
     assert_eq!(rules.len(), RULES);
     assert_eq!(integrity_body.len(), BODY);
     Program {
@@ -24,11 +24,15 @@ fn full(rules: Vec<Rule>, integrity_body: Vec<Literal>) -> Program {
     }
 }
 
+fn in_body(literal: u16) -> BodyLiteral {
+    BodyLiteral::Literal(Literal(literal))
+}
+
 /// A rule with one literal in its body, as often as there is room.
 fn repeated(head: u16, literal: u16) -> Rule {
     Rule {
         head: ObjectiveLiteral(head),
-        body: vec![Literal(literal); BODY],
+        body: vec![in_body(literal); BODY],
     }
 }
 
@@ -48,7 +52,7 @@ fn as_many_rounds_as_judged_literals() {
     let chain = (1..OBJECTIVE).map(|head| repeated(head, 2 * (head - 1) + 1));
     let mut rules: Vec<Rule> = [fact(0)].into_iter().chain(chain).collect();
     rules.extend(rules.clone());
-    let last_not = vec![Literal(2 * (OBJECTIVE - 1) + 1); BODY];
+    let last_not = vec![in_body(2 * (OBJECTIVE - 1) + 1); BODY];
     let program = full(rules, last_not);
     let (judgement, model) = judged(&program, &NO_QUERY, 0);
     assert_eq!(judgement.rounds, 513);
@@ -66,7 +70,7 @@ fn a_chain_of_rules_from_the_last_to_the_first() {
         .collect();
     rules.extend(rules.clone());
     rules.extend([fact(OBJECTIVE - 1), fact(OBJECTIVE - 1)]);
-    let program = full(rules, vec![Literal(0); BODY]);
+    let program = full(rules, vec![in_body(0); BODY]);
     let (judgement, model) = judged(&program, &NO_QUERY, 0);
     assert_eq!(judgement.rounds, 2);
     assert_eq!(model, [3; 513]);
@@ -83,8 +87,8 @@ fn a_chain_and_many_rounds_at_once() {
     rules.push(fact(0));
     rules.extend((128..255).map(|atom| repeated(2 * atom, 4 * (atom + 1))));
     rules.push(fact(2 * 255));
-    let mut fails_last = vec![Literal(4 * 255); BODY - 1];
-    fails_last.push(Literal(2));
+    let mut fails_last = vec![in_body(4 * 255); BODY - 1];
+    fails_last.push(in_body(2));
     while rules.len() < RULES {
         rules.push(Rule {
             head: ObjectiveLiteral(3),
@@ -103,9 +107,9 @@ fn a_chain_and_many_rounds_at_once() {
 #[test]
 fn many_scenarios_of_a_random_program() {
     let mut random = Random::new(seed(17));
-    let mut body = |least: usize| -> Vec<Literal> {
+    let mut body = |least: usize| -> Vec<BodyLiteral> {
         (0..random.between(least, BODY))
-            .map(|_| Literal(random.below(1_024) as u16))
+            .map(|_| in_body(random.below(1_024) as u16))
             .collect()
     };
     let program = Program {

@@ -1,9 +1,9 @@
 //! Falsity as the complement of P and from the dual, on random programs with
-//! rings and explicit negation.
+//! rings, explicit negation and the constant u.
 
 use plain::{
-    dual, model, next_false_by_dual, scenario_count, Dual, Form, Interpretation, JudgedSet,
-    Literal, ObjectiveLiteral, Program, Valuation, Value,
+    dual, model, next_false_by_dual, scenario_count, BodyLiteral, Dual, Form, Interpretation,
+    JudgedSet, ObjectiveLiteral, Program, Valuation, Value,
 };
 use random::seed::seed;
 use random::Random;
@@ -22,6 +22,19 @@ struct Reached {
     most_rounds: u64,
     /// Rounds in which a least set of backed literals would not do.
     ring_rounds: usize,
+    /// Rounds in which falsity would be another if a listed u held.
+    undefined_rounds: usize,
+}
+
+/// The dual from which falsity would be read if a listed u held: without the folds
+/// that list it.
+fn if_undefined_held(dual: &Dual) -> Dual {
+    let mut dual = dual.clone();
+    for entry in &mut dual.entries {
+        let foldings = &mut entry.foldings;
+        foldings.retain(|folding| !folding.conjugates.contains(&BodyLiteral::Undefined));
+    }
+    dual
 }
 
 /// The mistake to bar: falsity from a least set, where a ring never fails.
@@ -33,9 +46,12 @@ fn least_backed(
 ) -> JudgedSet {
     let mut set = JudgedSet::empty(program.atoms);
     let is_backed = |literal: ObjectiveLiteral, set: &JudgedSet| {
-        let holds = |literal: &Literal| match literal.form() {
-            Form::Objective(objective) => true_set.contains(objective),
-            Form::Not(objective) => set.contains(objective),
+        let holds = |literal: &BodyLiteral| match literal {
+            BodyLiteral::Literal(literal) => match literal.form() {
+                Form::Objective(objective) => true_set.contains(objective),
+                Form::Not(objective) => set.contains(objective),
+            },
+            BodyLiteral::Undefined => false,
         };
         let conjugate = literal.conjugate(program.atoms);
         let mut entries = dual.entries.iter();
@@ -58,6 +74,7 @@ fn least_backed(
 /// Goes through the rounds of the scenario and compares in each.
 fn compare(program: &Program, dual: &Dual, scenario: u32, reached: &mut Reached) {
     let valuation = Valuation::new(program, scenario);
+    let if_undefined_held = if_undefined_held(dual);
     let mut now = Interpretation::start(program.atoms);
     let mut rounds = 0;
     loop {
@@ -66,6 +83,8 @@ fn compare(program: &Program, dual: &Dual, scenario: u32, reached: &mut Reached)
         assert_eq!(successor.false_set, by_dual, "{program:?} {scenario}");
         let least = least_backed(program, dual, &valuation, &now.true_set);
         reached.ring_rounds += usize::from(least != by_dual);
+        let holding = next_false_by_dual(program, &if_undefined_held, &valuation, &now);
+        reached.undefined_rounds += usize::from(holding != by_dual);
         if successor == now {
             break;
         }
@@ -110,5 +129,6 @@ fn both_falsities_agree_on_random_programs() {
         "{reached:?}"
     );
     assert!(reached.ring_rounds > enough, "{reached:?}");
+    assert!(reached.undefined_rounds > enough, "{reached:?}");
     assert!(reached.most_rounds >= 5, "{reached:?}");
 }

@@ -3,7 +3,7 @@
 
 use plain::model::{next_possible, next_true};
 use plain::{
-    dual, next_false_by_dual, scenario_count, Dual, Form, Interpretation, JudgedSet, Literal,
+    dual, next_false_by_dual, scenario_count, BodyLiteral, Dual, Form, Interpretation, JudgedSet,
     ObjectiveLiteral, Program, Valuation, Value,
 };
 use random::seed::seed;
@@ -49,9 +49,12 @@ impl Round<'_> {
 
     /// Whether the set holds all that document 01 says that T(j+1) holds.
     fn is_closed_for_true(&self, set: &JudgedSet) -> bool {
-        let holds = |literal: &Literal| match literal.form() {
-            Form::Objective(objective) => set.contains(objective),
-            Form::Not(objective) => self.now.false_set.contains(objective),
+        let holds = |literal: &BodyLiteral| match literal {
+            BodyLiteral::Literal(literal) => match literal.form() {
+                Form::Objective(objective) => set.contains(objective),
+                Form::Not(objective) => self.now.false_set.contains(objective),
+            },
+            BodyLiteral::Undefined => false,
         };
         let given = judged(self.program)
             .into_iter()
@@ -66,9 +69,12 @@ impl Round<'_> {
 
     /// The same of P(j+1).
     fn is_closed_for_possible(&self, set: &JudgedSet) -> bool {
-        let holds = |literal: &Literal| match literal.form() {
-            Form::Objective(objective) => set.contains(objective),
-            Form::Not(objective) => !self.now.true_set.contains(objective),
+        let holds = |literal: &BodyLiteral| match literal {
+            BodyLiteral::Literal(literal) => match literal.form() {
+                Form::Objective(objective) => set.contains(objective),
+                Form::Not(objective) => !self.now.true_set.contains(objective),
+            },
+            BodyLiteral::Undefined => true,
         };
         let values = [Some(Value::True), Some(Value::Undefined)];
         let given = judged(self.program)
@@ -86,9 +92,12 @@ impl Round<'_> {
 
     /// Whether each literal in the set is backed.
     fn is_backed(&self, set: &JudgedSet) -> bool {
-        let holds = |literal: &Literal| match literal.form() {
-            Form::Objective(objective) => self.now.true_set.contains(objective),
-            Form::Not(objective) => set.contains(objective),
+        let holds = |literal: &BodyLiteral| match literal {
+            BodyLiteral::Literal(literal) => match literal.form() {
+                Form::Objective(objective) => self.now.true_set.contains(objective),
+                Form::Not(objective) => set.contains(objective),
+            },
+            BodyLiteral::Undefined => false,
         };
         let mut members = judged(self.program)
             .into_iter()

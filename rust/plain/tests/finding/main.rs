@@ -25,3 +25,4 @@ mod least;
 mod records;
 mod reference;
 mod searching;
+mod undefined;

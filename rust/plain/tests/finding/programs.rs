@@ -1,10 +1,11 @@
 //! Random programs and queries, and floors of what is reached with them.
 
-use plain::{Atom, Literal, ObjectiveLiteral, Program, Query, Rule};
+use plain::{Atom, BodyLiteral, Literal, ObjectiveLiteral, Program, Query, Rule};
 use random::Random;
 
 /// A program with so many abducibles, at most, and at least one atom besides.
-/// It has random rules and, more often than not, a ring of rules.
+/// It has random rules and, more often than not, a ring of rules. About one body
+/// in five holds u.
 pub fn program(random: &mut Random, most_abducibles: usize, most_others: usize) -> Program {
     let mut program = without_rules(random, most_abducibles, most_others);
     let heads = heads(&program);
@@ -63,7 +64,8 @@ fn heads(program: &Program) -> Vec<ObjectiveLiteral> {
 fn add_rules(random: &mut Random, program: &mut Program, heads: &[ObjectiveLiteral]) {
     for _ in 0..random.below(3 * heads.len()) {
         let head = random.pick(heads);
-        let body = literals(random, program, 3);
+        let literals = literals(random, program, 3);
+        let body = body(random, literals);
         program.rules.push(Rule { head, body });
     }
     if !random.one_in(3) {
@@ -74,16 +76,18 @@ fn add_rules(random: &mut Random, program: &mut Program, heads: &[ObjectiveLiter
 /// Adds rules of the head with one or two literals, all of abducible atoms.
 fn add_ways(random: &mut Random, program: &mut Program, head: ObjectiveLiteral) {
     for _ in 0..random.between(2, 4) {
-        let body = (0..random.between(1, 2))
+        let literals = (0..random.between(1, 2))
             .map(|_| literal_of(random, &program.abducibles))
             .collect();
+        let body = body(random, literals);
         program.rules.push(Rule { head, body });
     }
 }
 
 fn add_integrity_rules(random: &mut Random, program: &mut Program, count: usize) {
     for _ in 0..count {
-        let body = literals(random, program, 2);
+        let literals = literals(random, program, 2);
+        let body = body(random, literals);
         program.integrity_bodies.push(body);
     }
 }
@@ -95,8 +99,9 @@ fn add_ring(random: &mut Random, program: &mut Program, heads: &[ObjectiveLitera
     let ring: Vec<ObjectiveLiteral> = (0..length).map(|_| random.pick(heads)).collect();
     for (place, &head) in ring.iter().enumerate() {
         let next = ring[(place + 1) % length];
-        let mut body = literals(random, program, 1);
-        body.push(Literal(2 * next.0));
+        let mut literals = literals(random, program, 1);
+        literals.push(Literal(2 * next.0));
+        let body = body(random, literals);
         program.rules.push(Rule { head, body });
     }
 }
@@ -115,6 +120,16 @@ pub fn query(random: &mut Random, program: &Program) -> Query {
 /// Whether each count is above the floor.
 pub fn are_above(floor: usize, counts: &[usize]) -> bool {
     counts.iter().all(|&count| count > floor)
+}
+
+/// A body of these literals and, about one in five times, u before, among or after
+/// them.
+fn body(random: &mut Random, literals: Vec<Literal>) -> Vec<BodyLiteral> {
+    let mut body: Vec<BodyLiteral> = literals.into_iter().map(BodyLiteral::from).collect();
+    if random.one_in(5) {
+        body.insert(random.between(0, body.len()), BodyLiteral::Undefined);
+    }
+    body
 }
 
 /// At most so many literals, less often none. Every other one, about, is of an

@@ -2,10 +2,11 @@
 
 use calls::Source;
 use plain::{
-    encode_file, encode_sheet, read_file, read_sheet, Atom, ObjectiveLiteral, Program, Query, Rule,
+    encode_file, encode_sheet, read_file, read_sheet, Atom, Literal, ObjectiveLiteral, Program,
+    Query, Rule,
 };
 
-use crate::hand::literals as numbered;
+use crate::hand::body_literals;
 
 /// The program with these atoms, numbered from 0 in order, of which these are
 /// abducible. Rules are parted by semicolons; the head of an integrity rule is
@@ -33,18 +34,18 @@ pub fn loaded(source: &Source, text: &str) -> (Program, Query) {
 #[test]
 fn text_is_numbered_as_document_01_does() {
     let atoms = "a b c";
-    let text = "c :- not b; b :- a, not -c; -b; falsum :- -a; falsum";
+    let text = "c :- not b; b :- a, undefined, not -c; -b; falsum :- -a; falsum";
     let rule = |head, body| Rule {
         head: ObjectiveLiteral(head),
-        body: numbered(body),
+        body: body_literals(body),
     };
     let expected = Program {
         atoms: 3,
         abducibles: vec![Atom(0)],
-        rules: vec![rule(4, &[5]), rule(2, &[0, 11]), rule(3, &[])],
-        integrity_bodies: vec![numbered(&[2]), vec![]],
+        rules: vec![rule(4, &[5]), rule(2, &[0, 0xFFFF, 11]), rule(3, &[])],
+        integrity_bodies: vec![body_literals(&[2]), vec![]],
     };
     assert_eq!(program(atoms, "a", text), expected);
-    let literals = numbered(&[2, 9]);
+    let literals = vec![Literal(2), Literal(9)];
     assert_eq!(query(atoms, "-a, not c"), Query { literals });
 }

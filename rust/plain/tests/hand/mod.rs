@@ -1,6 +1,6 @@
-//! Bytes and literals written by hand.
+//! Bytes and bodies written by hand.
 
-use plain::Literal;
+use plain::{BodyLiteral, Literal};
 
 /// The bytes of the hexadecimal parts, one after the other.
 pub fn bytes(parts: &[&str]) -> Vec<u8> {
@@ -17,6 +17,11 @@ pub fn bytes(parts: &[&str]) -> Vec<u8> {
         .collect()
 }
 
-pub fn literals(numbers: &[u16]) -> Vec<Literal> {
-    numbers.iter().map(|&number| Literal(number)).collect()
+/// The body with these numbers, of which FFFF is u.
+pub fn body_literals(numbers: &[u16]) -> Vec<BodyLiteral> {
+    let literal = |&number: &u16| match number {
+        0xFFFF => BodyLiteral::Undefined,
+        _ => BodyLiteral::Literal(Literal(number)),
+    };
+    numbers.iter().map(literal).collect()
 }

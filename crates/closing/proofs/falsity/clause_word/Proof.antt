@@ -22,15 +22,15 @@ loop-holds c =
     let a = c .before .args in
     (omega arith, (search needs, some-to-none (now (a .clause)) (now (a .truth)) (now (a .falses))))
 
-literal-in-requires : tie.Need-literal-in-requires Inv-loop μ-loop
-literal-in-requires c κs = search needs
+body-literal-in-requires : tie.Need-body-literal-in-requires Inv-loop μ-loop
+body-literal-in-requires c κs = search needs
 
 word-of-requires : tie.Need-word-of-requires Inv-loop μ-loop
 word-of-requires c κs =
     let s = c .before .before .before .before in
     let a = s .args in
     let l = c .before .before .loop in
-    some-to-below (now (a .clause)) (now (a .truth)) (now (a .falses)) (l .i) (l .word) (l .inv .1 .1) (omega arith) (c .literal-in .ensures) (s .pre)
+    some-to-below (now (a .clause)) (now (a .truth)) (now (a .falses)) (l .i) (l .word) (l .inv .1 .1) (omega arith) (c .body-literal-in .ensures) (s .pre)
 
 add-i : tie.Need-add-i Inv-loop μ-loop
 add-i c = search needs
@@ -46,7 +46,8 @@ loop-again c =
       (
         l .inv .1 .0,
         rw (c .word-of .ensures)
-            (some-to-more (now (a .clause)) (now (a .truth)) (now (a .falses)) (l .i) (l .word) (l .inv .1 .1) (omega arith) (c .before .literal-in .ensures)),
+            (some-to-more (now (a .clause)) (now (a .truth)) (now (a .falses)) (l .i) (l .word) (l .inv .1 .1) (omega arith)
+            (c .before .body-literal-in .ensures)),
       ),
     )
 
@@ -63,7 +64,7 @@ clause-word-spec =
     Inv-loop
     μ-loop
     loop-holds
-    literal-in-requires
+    body-literal-in-requires
     word-of-requires
     add-i
     loop-less

@@ -27,8 +27,8 @@ returns c =
     word-left (now (a .body)) (now (a .set)) (now (a .negated)) (a .lanes) (l .i) (l .word) (l .inv .1 .1)
     (c .if1 .taken)
 
-literal-in-requires : tie.Need-literal-in-requires Inv-loop μ-loop
-literal-in-requires c κs = search needs
+body-literal-in-requires : tie.Need-body-literal-in-requires Inv-loop μ-loop
+body-literal-in-requires c κs = search needs
 
 word-of-requires : tie.Need-word-of-requires Inv-loop μ-loop
 word-of-requires c κs =
@@ -36,7 +36,7 @@ word-of-requires c κs =
     let a = s .args in
     let l = c .before .before .before .loop in
     literal-below (now (a .body)) (now (a .set)) (now (a .negated)) (a .lanes) (l .i) (l .word) (l .inv .1 .1) (omega arith)
-    (c .literal-in .ensures) 513 (s .pre)
+    (c .body-literal-in .ensures) 513 (s .pre)
 
 add-i : tie.Need-add-i Inv-loop μ-loop
 add-i c = search needs
@@ -53,7 +53,7 @@ loop-again c =
         refl,
         rw (c .word-of .ensures)
             (word-goes-on (now (a .body)) (now (a .set)) (now (a .negated)) (a .lanes) (l .i) (l .word) (l .inv .1 .1) (omega arith)
-            (c .before .literal-in .ensures)),
+            (c .before .body-literal-in .ensures)),
       ),
     )
 
@@ -71,7 +71,7 @@ body-word-spec =
     μ-loop
     loop-holds
     returns
-    literal-in-requires
+    body-literal-in-requires
     word-of-requires
     add-i
     loop-less

@@ -1,54 +1,25 @@
--- `lanes::words::word_of` meets its contract.
+-- `lanes::words::word_of` meets its contract: a case of the definition for each of the code.
 -- Assumes nothing.
 use borrow.Author.Needs.{needs}
-use mathlib.Core.Path.{sym, _∙_}
-use native.Mathlib.Omega.{arith}
-use denote.Ref.{now}
-use Rattle.lanes.proofs.WordLaws.{word-negated, word-bare}
+use Rattle.lanes.specs.Words.{wordOf}
 use Rattle.lanes.proofs.words.word_of.Statement.{statement}
 use Rattle.lanes.proofs.words.word_of.Tie as tie
 
-objective-of-requires : tie.Need-objective-of-requires
-objective-of-requires c κs = search needs
+enum-known-l : tie.Need-enum-known-l
+enum-known-l c = search needs
 
-is-default-negated-requires : tie.Need-is-default-negated-requires
-is-default-negated-requires c κs = search needs
+literal-word-requires : tie.Need-literal-word-requires
+literal-word-requires c κs = rw (c .before .l .given .1) at (c .before .before .before .pre)
 
-mul-result : tie.Need-mul-result
-mul-result c = omega (arith, c .before .before .objective-of .ensures, c .before .before .before .pre)
-
-element-copy-out-result : tie.Need-element-copy-out-result
-element-copy-out-result c = omega (arith, c .before .before .objective-of .ensures, c .before .before .before .pre)
-
-mul-result-2 : tie.Need-mul-result-2
-mul-result-2 c = omega (arith, c .before .before .objective-of .ensures, c .before .before .before .pre)
-
-element-copy-out-result-2 : tie.Need-element-copy-out-result-2
-element-copy-out-result-2 c = omega (arith, c .before .before .objective-of .ensures, c .before .before .before .pre)
+enum-told : tie.Need-enum-told
+enum-told c = search needs
 
 returns : tie.Need-returns
-returns c =
-    let a = c .before .before .before .before .args in
-    let o = c .before .before .before .objective-of in
-    word-negated (a .l .0) (o .result .0) (now (a .set)) (now (a .negated)) (o .ensures)
-    (sym (c .before .before .is-default-negated .ensures) ∙ c .before .if1 .taken)
+returns c = rw (c .before .before .l .given .1) (c .literal-word .ensures)
 
 returns-2 : tie.Need-returns-2
-returns-2 c =
-    let a = c .before .before .before .before .args in
-    let o = c .before .before .before .objective-of in
-    word-bare (a .l .0) (o .result .0) (now (a .set)) (now (a .negated)) (o .ensures)
-    (sym (c .before .before .is-default-negated .ensures) ∙ c .before .if1 .left)
+unfolding wordOf
+returns-2 c = rw (c .enum-told .given .1)
 
 pub word-of-spec : {M : Type 1} → statement M
-word-of-spec =
-    tie.close
-    (tie.spec
-    objective-of-requires
-    is-default-negated-requires
-    mul-result
-    element-copy-out-result
-    mul-result-2
-    element-copy-out-result-2
-    returns
-    returns-2)
+word-of-spec = tie.close (tie.spec enum-known-l literal-word-requires enum-told returns returns-2)
