@@ -1,5 +1,5 @@
-// Document 02, Card 5: "In bodies of 04 and 05 the literal FFFF now means undefined, the constant u of document 000." Everything that walks a body
-// reads its literals by `body_literal`.
+// Document 02, Card 5: "In bodies of 04 and 05 the literal FFFF now means undefined, the constant u of document 000." The reader, the
+// dual's writer, truth and falsity read a body's literals by `body_literal`.
 ghost use mathlib.Core.Path.{_≡_};
 ghost use Rattle.literals.specs.BodyLiterals.{bodyLiteral, bodyNumber, bodyListed};
 use crate::Literal;

@@ -1,6 +1,6 @@
 -- Where the folds of a literal hold: exactly where no rule of the literal has a body that holds, with each set replaced by the other's complement.
 -- Assumes nothing.
-use mathlib.Core.Path.{_≡_, refl, sym, ap, _∙_}
+use mathlib.Core.Path.{_≡_, refl, sym, ap, ap₂, _∙_}
 use mathlib.Core.Bool.{Bool, true, false, not, cond, Bool·not-not, true≢false}
 use mathlib.Core.List.{List, [], _∷_, map}
 use Prim.Native.Nat.{ℕ, suc, _+_, _*_, _/_, _%_, _≤_, _<_}
@@ -65,8 +65,8 @@ module _ (n : ℕ) (few : n ≤ 0x7FFF) (set trues : Set) where
   unfolding someHolds bodyHolds
   body-conjugates nothing = refl
   body-conjugates (each {a = l} {more = more} h rest) =
-      rw (literal-conjugate l h, body-conjugates rest)
-      (sym (not-and (literalHolds true set (complement n trues) (bodyLiteral l)) (bodyHolds true set (complement n trues) more)))
+      ap₂ _or_ (literal-conjugate l h) (body-conjugates rest)
+      ∙ sym (not-and (literalHolds true set (complement n trues) (bodyLiteral l)) (bodyHolds true set (complement n trues) more))
 
   -- ---- the folds of a head
 

@@ -19,7 +19,7 @@ pub mod Fitting
 -- ---- the theorems
 -- Reading back: an imported text's program is valid, and its file is read as that program.
 pub mod ReadBack
--- Round trip: a valid program has a text that imports as it, if its atom count is the one that a text gives.
+-- Round trip: a valid program without u has a text that imports as it, if its atom count is the one that a text gives.
 pub mod RoundTrip
 -- Spacing: what a text is accepted as depends on its tokens alone.
 pub mod Spacing
