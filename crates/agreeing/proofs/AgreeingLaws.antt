@@ -10,65 +10,65 @@ use lib.Bits.{bit_and}
 use lib.Dec.{eqb, eqb→eq}
 use lib.ListN.{length, get_or, set, replicate, length-set, length-replicate}
 use Rattle.papers.specs.Tests.{◌and◌, ◌or◌}
-use Rattle.papers.proofs.TestLaws.{left, right, passes, and-true, and_assoc}
-use Rattle.lanes.specs.Lanes.{inLane, Written}
-use Rattle.lanes.proofs.LaneLaws.{lane_and, lane-full, written_none, written-more}
+use Rattle.papers.proofs.TestLaws.{left, right, passes, and_true, and_assoc}
+use Rattle.lanes.specs.Lanes.{lane_bit, Written}
+use Rattle.lanes.proofs.LaneLaws.{lane_and, lane_full, written_none, written_more}
 use Rattle.digits.specs.Digits.{DigitLanes}
 use Rattle.held.specs.declared.Masks.{Masks}
-use Rattle.held.specs.Masks.{keeps, agreesAt, agrees}
-use Rattle.held.proofs.HeldLaws.{none-agrees}
+use Rattle.held.specs.Masks.{keeps, agrees_at, agrees}
+use Rattle.held.proofs.HeldLaws.{none_agrees}
 use Rattle.agreeing.specs.AgreeingLanes.{AgreeingLanes, KeptLanes, AgreeingRounds}
 
 -- ---- the lanes kept at one fault
 
 module _ {base power : ℕ} where
   -- By one mask: where it holds the fault the lanes of its digit, else all.
-  kept-digit : (held : Bool) (digit word lanes l : ℕ) → l < 64 → DigitLanes base power digit lanes
-      → inLane l (cond held (bit_and word lanes) word) ≡ (inLane l word and keeps held digit ((base + l) / power % 3))
+  kept_digit : (held : Bool) (digit word lanes l : ℕ) → l < 64 → DigitLanes base power digit lanes
+      → lane_bit l (cond held (bit_and word lanes) word) ≡ (lane_bit l word and keeps held digit ((base + l) / power % 3))
   unfolding keeps ◌or◌
-  kept-digit true digit word lanes l h d = lane_and l word lanes ∙ ap (λ (b : Bool). inLane l word and b) (d.at l h)
-  kept-digit false digit word lanes l h d = sym (and-true (inLane l word))
+  kept_digit true digit word lanes l h d = lane_and l word lanes ∙ ap (λ (b : Bool). lane_bit l word and b) (d.at l h)
+  kept_digit false digit word lanes l h d = sym (and_true (lane_bit l word))
 
   -- By both.
-  pub kept-both : {word one two middle after : ℕ} {assumed ruled : Bool} → DigitLanes base power 1 one → DigitLanes base power 2 two
+  pub kept_both : {word one two middle after : ℕ} {assumed ruled : Bool} → DigitLanes base power 1 one → DigitLanes base power 2 two
       → middle ≡ cond assumed (bit_and word one) word → after ≡ cond ruled (bit_and middle two) middle → KeptLanes base power assumed ruled word after
-  kept-both {word} {one} {two} {middle} {after} {assumed} {ruled} o t e f = record {
+  kept_both {word} {one} {two} {middle} {after} {assumed} {ruled} o t e f = record {
     at = λ l h.
         let d = (base + l) / power % 3 in
-        ap (inLane l) f
-        ∙ kept-digit ruled 2 middle two l h t
-        ∙ ap (λ (b : Bool). b and keeps ruled 2 d) (ap (inLane l) e ∙ kept-digit assumed 1 word one l h o)
-        ∙ and_assoc (inLane l word) (keeps assumed 1 d) (keeps ruled 2 d);
+        ap (lane_bit l) f
+        ∙ kept_digit ruled 2 middle two l h t
+        ∙ ap (λ (b : Bool). b and keeps ruled 2 d) (ap (lane_bit l) e ∙ kept_digit assumed 1 word one l h o)
+        ∙ and_assoc (lane_bit l word) (keeps assumed 1 d) (keeps ruled 2 d);
   }
 
   -- A fault that is not held.
   pub kept_free : {word : ℕ} {assumed ruled : Bool} → assumed ≡ false → ruled ≡ false → KeptLanes base power assumed ruled word word
   unfolding keeps ◌and◌ ◌or◌
-  kept_free {word} e f = record { at = λ l h. rw (e, f) (sym (and-true (inLane l word))) }
+  kept_free {word} e f = record { at = λ l h. rw (e, f) (sym (and_true (lane_bit l word))) }
 
 -- ---- no fault
 
-pub free-agrees : (k : ℕ) (m : Masks) (s : ℕ) → (eqb m.assumed 0 and eqb m.ruled 0) ≡ true → agrees k m s ≡ true
-free-agrees k m s e =
+pub free_agrees : (k : ℕ) (m : Masks) (s : ℕ) → (eqb m.assumed 0 and eqb m.ruled 0) ≡ true → agrees k m s ≡ true
+free_agrees k m s e =
     let t = passes (eqb m.assumed 0 and eqb m.ruled 0) e in
-    none-agrees k m s (eqb→eq m.assumed 0 (left (eqb m.assumed 0) _ t)) (eqb→eq m.ruled 0 (right (eqb m.assumed 0) _ t))
+    none_agrees k m s (eqb→eq m.assumed 0 (left (eqb m.assumed 0) _ t)) (eqb→eq m.ruled 0 (right (eqb m.assumed 0) _ t))
 
 -- ---- one fault after another
 
 -- Of none: every lane agrees.
-pub agreeing-none : (m : Masks) (base : ℕ) → AgreeingLanes 0 m base 18446744073709551615
+pub agreeing_none : (m : Masks) (base : ℕ) → AgreeingLanes 0 m base 18446744073709551615
 unfolding agrees
-agreeing-none m base = record { at = λ l h. lane-full l h }
+agreeing_none m base = record { at = λ l h. lane_full l h }
 
 -- Where no fault is held too.
-pub agreeing-free : (k : ℕ) (m : Masks) (base : ℕ) → (eqb m.assumed 0 and eqb m.ruled 0) ≡ true → AgreeingLanes k m base 18446744073709551615
-agreeing-free k m base e = record { at = λ l h. lane-full l h ∙ sym (free-agrees k m (base + l) e) }
+pub agreeing_free : (k : ℕ) (m : Masks) (base : ℕ) → (eqb m.assumed 0 and eqb m.ruled 0) ≡ true → AgreeingLanes k m base 18446744073709551615
+agreeing_free k m base e = record { at = λ l h. lane_full l h ∙ sym (free_agrees k m (base + l) e) }
 
 -- Of one more.
-pub agreeing-next : {i : ℕ} {m : Masks} {base power word after : ℕ} {one two : Bool} → AgreeingLanes i m base word → power ≡ 3 ^ i
-    → one ≡ inLane i m.assumed → two ≡ inLane i m.ruled → KeptLanes base power one two word after → AgreeingLanes (i + 1) m base after
-unfolding agrees agreesAt
-agreeing-next {i} {m} {base} {power} {word} {after} {one} {two} so_far p e f k = record {
+pub agreeing_next : {i : ℕ} {m : Masks} {base power word after : ℕ} {one two : Bool} → AgreeingLanes i m base word → power ≡ 3 ^ i
+    → one ≡ lane_bit i m.assumed → two ≡ lane_bit i m.ruled → KeptLanes base power one two word after → AgreeingLanes (i + 1) m base after
+unfolding agrees agrees_at
+agreeing_next {i} {m} {base} {power} {word} {after} {one} {two} so_far p e f k = record {
   at = λ l h.
       let s = base + l in
       k.at l h
@@ -80,25 +80,25 @@ agreeing-next {i} {m} {base} {power} {word} {after} {one} {two} so_far p e f k =
 -- ---- the rounds
 
 -- What a lane is to have.
-unfoldable pub roundsIn : ℕ → List ℕ → ℕ → ℕ
-roundsIn word rounds l = cond (inLane l word) (get_or rounds l 0) 0
+unfoldable pub rounds_in : ℕ → List ℕ → ℕ → ℕ
+rounds_in word rounds l = cond (lane_bit l word) (get_or rounds l 0) 0
 
 -- The lanes below this one have theirs.
 pub record RoundsBelow (l word : ℕ) (rounds after : List ℕ) : Type 0 where
   pub size : length after ≡ 64
-  pub done : Written l (roundsIn word rounds) (replicate 64 0) after
+  pub done : Written l (rounds_in word rounds) (replicate 64 0) after
 
-pub rounds-none : (word : ℕ) (rounds : List ℕ) → RoundsBelow 0 word rounds (replicate 64 0)
-rounds-none word rounds = record { size = length-replicate {A = ℕ} 64 0; done = written_none (roundsIn word rounds) (replicate 64 0) }
+pub rounds_none : (word : ℕ) (rounds : List ℕ) → RoundsBelow 0 word rounds (replicate 64 0)
+rounds_none word rounds = record { size = length-replicate {A = ℕ} 64 0; done = written_none (rounds_in word rounds) (replicate 64 0) }
 
-pub rounds-next : {l word own : ℕ} {rounds after : List ℕ} → RoundsBelow l word rounds after → l < 64
-    → own ≡ cond (inLane l word) (get_or rounds l 0) 0 → RoundsBelow (l + 1) word rounds (set after l own)
-unfolding roundsIn
-rounds-next {l} {word} {own} {rounds} {after} b h e = record {
+pub rounds_next : {l word own : ℕ} {rounds after : List ℕ} → RoundsBelow l word rounds after → l < 64
+    → own ≡ cond (lane_bit l word) (get_or rounds l 0) 0 → RoundsBelow (l + 1) word rounds (set after l own)
+unfolding rounds_in
+rounds_next {l} {word} {own} {rounds} {after} b h e = record {
   size = length-set after l own ∙ b.size;
-  done = rw e (written-more (roundsIn word rounds) l (replicate 64 0) after (omega (arith, b.size)) b.done);
+  done = rw e (written_more (rounds_in word rounds) l (replicate 64 0) after (omega (arith, b.size)) b.done);
 }
 
-pub rounds-all : {l word : ℕ} {rounds after : List ℕ} → RoundsBelow l word rounds after → 64 ≤ l → AgreeingRounds word rounds after
-unfolding roundsIn
-rounds-all b h = record { at = λ o g. b.done.at o (omega arith) }
+pub rounds_all : {l word : ℕ} {rounds after : List ℕ} → RoundsBelow l word rounds after → 64 ≤ l → AgreeingRounds word rounds after
+unfolding rounds_in
+rounds_all b h = record { at = λ o g. b.done.at o (omega arith) }

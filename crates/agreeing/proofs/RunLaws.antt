@@ -8,25 +8,25 @@ use native.Mathlib.Numerals.{add-one}
 use native.Mathlib.Omega.{arith}
 use lib.Arith.{digits_div}
 use Rattle.papers.specs.Tests.{◌and◌}
-use Rattle.lanes.specs.Lanes.{inLane}
+use Rattle.lanes.specs.Lanes.{lane_bit}
 use Rattle.held.specs.declared.Masks.{Masks}
-use Rattle.held.specs.Masks.{keeps, agreesAt, agrees}
-use Rattle.held.proofs.AgreesLaws.{agrees-fails}
+use Rattle.held.specs.Masks.{keeps, agrees_at, agrees}
+use Rattle.held.proofs.AgreesLaws.{agrees_fails}
 
 -- ---- one fault
 
 -- Another digit than that of the first mask, or of the second.
-pub first-other : (a b : Bool) → not a ≡ true → true ≡ not (a and b)
+pub first_other : (a b : Bool) → not a ≡ true → true ≡ not (a and b)
 unfolding ◌and◌
-first-other a b e = go a e
+first_other a b e = go a e
   where
     go : (x : Bool) → not x ≡ true → true ≡ not (x and b)
     go false h = refl
     go true h = absurd (true≢false (sym h))
 
-pub second-other : (a b : Bool) {test : Bool} → not a ≡ false → test ≡ not b → test ≡ not (a and b)
+pub second_other : (a b : Bool) {test : Bool} → not a ≡ false → test ≡ not b → test ≡ not (a and b)
 unfolding ◌and◌
-second-other a b {test} e t = go a e
+second_other a b {test} e t = go a e
   where
     go : (x : Bool) → not x ≡ false → test ≡ not (x and b)
     go true h = t
@@ -35,8 +35,8 @@ second-other a b {test} e t = go a e
 -- ---- runs
 
 -- Up to the next multiple of a power of 3 the digit there stays.
-same-run : (s power l : ℕ) → 0 < power → l < power - s % power → (s + l) / power ≡ s / power
-same-run s power l h k =
+same_run : (s power l : ℕ) → 0 < power → l < power - s % power → (s + l) / power ≡ s / power
+same_run s power l h k =
     let m = mod-lt s h in
     let e : s + l ≡ s / power * power + (s % power + l) = omega (arith, div-add-mod' s power) in
     ap (λ (x : ℕ). x / power) e ∙ digits_div (s / power) (omega arith)
@@ -46,43 +46,43 @@ pub record Passing (k i : ℕ) (m : Masks) (s run : ℕ) : Type 0 where
   pub none : (l : ℕ) → l < run → agrees k m (s + l) ≡ false
   pub first : run ≡ 0 → agrees i m s ≡ true
 
-pub passing-begun : (k : ℕ) (m : Masks) (s : ℕ) → Passing k 0 m s 0
+pub passing_begun : (k : ℕ) (m : Masks) (s : ℕ) → Passing k 0 m s 0
 unfolding agrees
-passing-begun k m s = record { none = λ l h. absurd (omega arith); first = λ e. refl }
+passing_begun k m s = record { none = λ l h. absurd (omega arith); first = λ e. refl }
 
 module _ {k i : ℕ} {m : Masks} {s run : ℕ} (so_far : Passing k i m s run) (within : i < k) where
   -- A fault at which s does not agree,
-  other-run : agreesAt m s i ≡ false → 0 < 3 ^ i → Passing k (i + 1) m s (3 ^ i - s % 3 ^ i)
-  unfolding agreesAt
-  other-run e pos = record {
-    none = λ l h. agrees-fails k m (s + l) i within (rw (same-run s (3 ^ i) l pos h) e);
+  other_run : agrees_at m s i ≡ false → 0 < 3 ^ i → Passing k (i + 1) m s (3 ^ i - s % 3 ^ i)
+  unfolding agrees_at
+  other_run e pos = record {
+    none = λ l h. agrees_fails k m (s + l) i within (rw (same_run s (3 ^ i) l pos h) e);
     first = λ z. let small = mod-lt s pos in absurd (omega arith);
   }
 
   -- and one at which it does.
-  same-fault : agreesAt m s i ≡ true → Passing k (i + 1) m s run
+  same_fault : agrees_at m s i ≡ true → Passing k (i + 1) m s run
   unfolding agrees ◌and◌
-  same-fault e = record { none = so_far.none; first = λ z. ap (λ (n : ℕ). agrees n m s) (add-one i) ∙ rw (so_far.first z, e) }
+  same_fault e = record { none = so_far.none; first = λ z. ap (λ (n : ℕ). agrees n m s) (add-one i) ∙ rw (so_far.first z, e) }
 
-  at-fault : {power : ℕ} {one two : Bool} → power ≡ 3 ^ i → one ≡ inLane i m.assumed → two ≡ inLane i m.ruled
-      → not (keeps one 1 (s / power % 3) and keeps two 2 (s / power % 3)) ≡ not (agreesAt m s i)
-  unfolding agreesAt
-  at-fault {power} {one} {two} p e f =
+  at_fault : {power : ℕ} {one two : Bool} → power ≡ 3 ^ i → one ≡ lane_bit i m.assumed → two ≡ lane_bit i m.ruled
+      → not (keeps one 1 (s / power % 3) and keeps two 2 (s / power % 3)) ≡ not (agrees_at m s i)
+  unfolding agrees_at
+  at_fault {power} {one} {two} p e f =
       ap (λ (n : ℕ). not (keeps one 1 (s / n % 3) and keeps two 2 (s / n % 3))) p
       ∙ ap₂ (λ (x y : Bool). not (keeps x 1 (s / 3 ^ i % 3) and keeps y 2 (s / 3 ^ i % 3))) e f
 
-  pub passing-next : {power after : ℕ} {one two test : Bool} → power ≡ 3 ^ i → 0 < power → one ≡ inLane i m.assumed → two ≡ inLane i m.ruled
+  pub passing_next : {power after : ℕ} {one two test : Bool} → power ≡ 3 ^ i → 0 < power → one ≡ lane_bit i m.assumed → two ≡ lane_bit i m.ruled
       → test ≡ not (keeps one 1 (s / power % 3) and keeps two 2 (s / power % 3)) → after ≡ cond test (power - s % power) run
       → Passing k (i + 1) m s after
-  passing-next {power} {after} {one} {two} {test} p pos e f t a = go (agreesAt m s i) refl
+  passing_next {power} {after} {one} {two} {test} p pos e f t a = go (agrees_at m s i) refl
     where
-      told : test ≡ not (agreesAt m s i)
-      told = t ∙ at-fault p e f
+      told : test ≡ not (agrees_at m s i)
+      told = t ∙ at_fault p e f
 
-      go : (x : Bool) → agreesAt m s i ≡ x → Passing k (i + 1) m s after
+      go : (x : Bool) → agrees_at m s i ≡ x → Passing k (i + 1) m s after
       go true h =
           let is : after ≡ run = a ∙ rw (told, h) in
-          subst (Passing k (i + 1) m s) (sym is) (same-fault h)
+          subst (Passing k (i + 1) m s) (sym is) (same_fault h)
       go false h =
           let is : after ≡ 3 ^ i - s % 3 ^ i = a ∙ rw (told, h, p) in
-          subst (Passing k (i + 1) m s) (sym is) (other-run h (omega (arith, p)))
+          subst (Passing k (i + 1) m s) (sym is) (other_run h (omega (arith, p)))

@@ -4,7 +4,7 @@ pub mod runs;
 ghost use Rattle.std.specs.Prelude.{◌≡◌, cond, ◌≤◌, ◌<◌, eqb};
 ghost use Rattle.std.specs.Int.Bits.{bit_and};
 ghost use Rattle.papers.specs.Tests.{◌and◌};
-ghost use Rattle.lanes.specs.Lanes.{inLane};
+ghost use Rattle.lanes.specs.Lanes.{lane_bit};
 ghost use Rattle.agreeing.specs.AgreeingLanes.{AgreeingLanes, KeptLanes, AgreeingRounds};
 
 use digits::digit_lanes;
@@ -69,7 +69,7 @@ pub fn agreeing_lanes(k: usize, base: u64, held: Masks) -> u64
 // A round count, in a lane that agrees.
 fn rounds_in(word: u64, l: usize, rounds: u64) -> u64
     requires { l < 64 }
-    ensures { result ≡ cond (inLane l word) rounds 0 }
+    ensures { result ≡ cond (lane_bit l word) rounds 0 }
 {
     if in_lane(word, l) { rounds } else { 0 }
 }

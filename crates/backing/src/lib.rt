@@ -2,7 +2,7 @@
 // false abducible literal.
 ghost use Rattle.std.specs.Prelude.{◌≡◌, ◌<◌, ◌≤◌};
 ghost use Rattle.literals.specs.Numbering.{judged};
-ghost use Rattle.lanes.specs.Lanes.{backingWord, Written};
+ghost use Rattle.lanes.specs.Lanes.{backing_word, Written};
 
 use conjugates::Conjugate;
 use lanes::words::lent_known;
@@ -10,7 +10,7 @@ use literals::Objective;
 
 fn backing_word(trues: &[u64; 513], falses: &[u64; 513], atoms: u16, o: Objective) -> u64
     requires { (o.0 < 513) × (atoms ≤ 256) }
-    ensures { result ≡ backingWord atoms trues.now falses.now o.0 }
+    ensures { result ≡ backing_word atoms trues.now falses.now o.0 }
 {
     let at = o.0;
     let conjugate = conjugates::explicit_conjugate_number(o, atoms);
@@ -24,7 +24,7 @@ fn backing_word(trues: &[u64; 513], falses: &[u64; 513], atoms: u16, o: Objectiv
 // The judged literals' words, into a lent row.
 pub fn backing_words(trues: &[u64; 513], falses: &[u64; 513], atoms: u16, words: &mut [u64; 513])
     requires { atoms ≤ 256 }
-    ensures { Written (judged atoms) (backingWord atoms trues.now falses.now) words.old words.new }
+    ensures { Written (judged atoms) (backing_word atoms trues.now falses.now) words.old words.new }
 {
     lent_known(words);
     let count = literals::judged(atoms);

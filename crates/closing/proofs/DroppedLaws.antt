@@ -11,22 +11,22 @@ use lib.Dec.{T, eqb}
 use lib.ListN.{length, get_or, set, length-set}
 use lib.Seq.{get_or-set_same, get_or-set_other, set-get_or}
 use lib.Bits.{bit_and, bit_or, and_le_l}
-use Rattle.literals.specs.Numbering.{explicitlyNegated, judged}
+use Rattle.literals.specs.Numbering.{explicitly_negated, judged}
 use Rattle.papers.specs.Program.{Program}
 use Rattle.papers.specs.Valid.{Valid}
 use Rattle.dual.specs.Table.{Field, dual}
 use Rattle.papers.specs.Tests.{◌and◌, ◌or◌}
 use Rattle.model.specs.Sets.{Set, has}
-use Rattle.model.specs.Scenarios.{digitOf, falseAbducible}
-use Rattle.model.specs.Model.{conjugateIn}
-use Rattle.model.specs.Falsity.{entryHolds, backed}
-use Rattle.lanes.specs.Lanes.{inLane, lane}
+use Rattle.model.specs.Scenarios.{digit_of, false_abducible}
+use Rattle.model.specs.Model.{conjugate_in}
+use Rattle.model.specs.Falsity.{entry_holds, backed}
+use Rattle.lanes.specs.Lanes.{lane_bit, lane}
 use Rattle.closing.specs.FalseWords.{GivenBacked, Dropped, Narrowed, BackedTo, DroppedTo, PartDropped}
 use Rattle.lanes.specs.Words.{total}
-use Rattle.papers.proofs.TestLaws.{both, left, right, or_mono, is_true, false-or, false-and}
-use Rattle.model.proofs.SetLaws.{Sub, has_within, set-ext}
-use Rattle.model.proofs.FalsityLaws.{backed-more}
-use Rattle.lanes.proofs.LaneLaws.{lane_and, lane_or, sized as lane-sized, has-lane, total-set}
+use Rattle.papers.proofs.TestLaws.{both, left, right, or_mono, is_true, false_or, false_and}
+use Rattle.model.proofs.SetLaws.{Sub, has_within, set_ext}
+use Rattle.model.proofs.FalsityLaws.{backed_more}
+use Rattle.lanes.proofs.LaneLaws.{lane_and, lane_or, sized as lane-sized, has_lane, total_set}
 
 -- ---- a larger set backs more
 
@@ -34,27 +34,27 @@ use Rattle.lanes.proofs.LaneLaws.{lane_and, lane_or, sized as lane-sized, has-la
 abbrev bare : Program
 bare = record { atoms = 0; abducibles = []; rules = []; integrity = [] }
 
-bare-false : (o : ℕ) → falseAbducible bare 0 o ≡ false
-unfolding falseAbducible digitOf
-bare-false o = go (explicitlyNegated o) where
+bare_false : (o : ℕ) → false_abducible bare 0 o ≡ false
+unfolding false_abducible digit_of
+bare_false o = go (explicitly_negated o) where
   go : (b : Bool) → eqb 3 (cond b 1 2) ≡ false
   go true = refl
   go false = refl
 
-bare-conjugate : (trues : Set) (o : ℕ) → conjugateIn 0 trues o ≡ false
-unfolding conjugateIn
-bare-conjugate trues o = rw (le-ltb o 0 (omega arith)) (false-and _)
+bare_conjugate : (trues : Set) (o : ℕ) → conjugate_in 0 trues o ≡ false
+unfolding conjugate_in
+bare_conjugate trues o = rw (le-ltb o 0 (omega arith)) (false_and _)
 
-bare-backed : (fields : List Field) (trues set : Set) (o : ℕ) → backed bare 0 fields trues set o ≡ entryHolds fields trues set fields o
+bare_backed : (fields : List Field) (trues set : Set) (o : ℕ) → backed bare 0 fields trues set o ≡ entry_holds fields trues set fields o
 unfolding backed
-bare-backed fields trues set o =
-    let entered = entryHolds fields trues set fields o in
-    rw (bare-conjugate trues o, bare-false o) (false-or (false or entered) ∙ false-or entered)
+bare_backed fields trues set o =
+    let entered = entry_holds fields trues set fields o in
+    rw (bare_conjugate trues o, bare_false o) (false_or (false or entered) ∙ false_or entered)
 
 entry_more : (fields : List Field) (trues : Set) {set set' : Set} → Sub set set' → (o : ℕ)
-    → T (entryHolds fields trues set fields o) → T (entryHolds fields trues set' fields o)
+    → T (entry_holds fields trues set fields o) → T (entry_holds fields trues set' fields o)
 entry_more fields trues {set} {set'} h o t =
-    rw (bare-backed fields trues set' o) at (backed-more bare 0 fields trues h o (rw (bare-backed fields trues set o) t))
+    rw (bare_backed fields trues set' o) at (backed_more bare 0 fields trues h o (rw (bare_backed fields trues set o) t))
 
 -- ---- one step after the other
 
@@ -69,11 +69,11 @@ module _ {p : Program} {truth backing : List ℕ} where
   }
 
   -- What the second step visits is among all that are visited.
-  pub narrowed-then : {visited second : ℕ → ℕ} {upto more all : ℕ} {before between after : List ℕ}
+  pub narrowed_then : {visited second : ℕ → ℕ} {upto more all : ℕ} {before between after : List ℕ}
       → Narrowed visited upto p truth backing before between → Narrowed second more p truth backing between after
       → upto ≤ all → ((j : ℕ) → j < more → (i : ℕ) × ((i < all) × (visited i ≡ second j)))
       → Narrowed visited all p truth backing before after
-  narrowed-then a b u among = record {
+  narrowed_then a b u among = record {
     long = b.long;
     beyond = record { at = λ o h. b.beyond.at o h ∙ a.beyond.at o h };
     less = λ l o x. a.less l o (b.less l o x);
@@ -85,11 +85,11 @@ module _ {p : Program} {truth backing : List ℕ} where
 -- ---- one entry
 
 -- Asking only the lanes that have o and in which nothing else backs it leaves the same lanes.
-asked-all : (a b e : Bool) → (a and (b or ((a and not b) and e))) ≡ (a and (b or e))
+asked_all : (a b e : Bool) → (a and (b or ((a and not b) and e))) ≡ (a and (b or e))
 unfolding ◌and◌ ◌or◌
-asked-all false b e = refl
-asked-all true true e = refl
-asked-all true false e = refl
+asked_all false b e = refl
+asked_all true true e = refl
+asked_all true false e = refl
 
 module _ {p : Program} {o : ℕ} {truth backing before after : List ℕ} {moved : Bool}
     (valid : Valid p) (within : o < judged p.atoms) (long : length before ≡ 513) (one : Dropped p o truth backing before after moved) where
@@ -100,7 +100,7 @@ module _ {p : Program} {o : ℕ} {truth backing before after : List ℕ} {moved 
   new = bit_and (get_or before o 0) (bit_or (get_or backing o 0) one.word)
 
   inside : o < length before
-  inside = let v = valid.fewAtoms in omega arith
+  inside = let v = valid.few_atoms in omega arith
 
   here : get_or after o 0 ≡ new
   here = ap (λ (w : List ℕ). get_or w o 0) one.is ∙ get_or-set_same before o new 0 inside
@@ -108,21 +108,21 @@ module _ {p : Program} {o : ℕ} {truth backing before after : List ℕ} {moved 
   other : (q : ℕ) → (q ≡ o → ⊥) → get_or after q 0 ≡ get_or before q 0
   other q ne = ap (λ (w : List ℕ). get_or w q 0) one.is ∙ get_or-set_other before o q new 0 ne
 
-  new-lane : (l : ℕ) → l < 64
-      → inLane l new
-      ≡ (inLane l (get_or before o 0)
-      and (inLane l (get_or backing o 0) or entryHolds (dual p) (lane n l truth) (lane n l before) (dual p) o))
-  new-lane l h =
-      let a = inLane l (get_or before o 0) in
-      let b = inLane l (get_or backing o 0) in
-      let e = entryHolds (dual p) (lane n l truth) (lane n l before) (dual p) o in
+  new_lane : (l : ℕ) → l < 64
+      → lane_bit l new
+      ≡ (lane_bit l (get_or before o 0)
+      and (lane_bit l (get_or backing o 0) or entry_holds (dual p) (lane n l truth) (lane n l before) (dual p) o))
+  new_lane l h =
+      let a = lane_bit l (get_or before o 0) in
+      let b = lane_bit l (get_or backing o 0) in
+      let e = entry_holds (dual p) (lane n l truth) (lane n l before) (dual p) o in
       lane_and l (get_or before o 0) (bit_or (get_or backing o 0) one.word)
       ∙ ap (λ (x : Bool). a and x)
       (lane_or l (get_or backing o 0) one.word
       ∙ ap (λ (x : Bool). b or x) (one.holds.at l h ∙ ap (λ (x : Bool). x and e) (one.asked l h)))
-      ∙ asked-all a b e
+      ∙ asked_all a b e
 
-  less : (l q : ℕ) → T (inLane l (get_or after q 0)) → T (inLane l (get_or before q 0))
+  less : (l q : ℕ) → T (lane_bit l (get_or after q 0)) → T (lane_bit l (get_or before q 0))
   less l q x =
       elim (ℕ_discrete q o) [
         | yes e ↦ rw e (left _ _ (rw (lane_and l (get_or before o 0) (bit_or (get_or backing o 0) one.word)) at (rw here at (rw e at x))))
@@ -130,26 +130,26 @@ module _ {p : Program} {o : ℕ} {truth backing before after : List ℕ} {moved 
       ]
 
   keeps : (l : ℕ) → l < 64 → (t : Set) → GivenBacked p (lane n l backing) (lane n l truth) t
-      → ((q : ℕ) → T (has t q) → T (inLane l (get_or before q 0))) → (q : ℕ) → T (has t q) → T (inLane l (get_or after q 0))
+      → ((q : ℕ) → T (has t q) → T (lane_bit l (get_or before q 0))) → (q : ℕ) → T (has t q) → T (lane_bit l (get_or after q 0))
   keeps l h t b kept q y =
       elim (ℕ_discrete q o) [
-        | yes e ↦ rw (e, here, new-lane l h) (both _ _ (kept o (rw e at y)) (backs (rw e at y)))
+        | yes e ↦ rw (e, here, new_lane l h) (both _ _ (kept o (rw e at y)) (backs (rw e at y)))
         | no ne ↦ rw (other q ne) (kept q y)
       ] where
         sub : Sub t (lane n l before)
         sub = record {
-          at = λ r x. let m = has_within t r x in let z = b.sized in let k : r < n = omega arith in rw (has-lane n l r before k) (kept r x);
+          at = λ r x. let m = has_within t r x in let z = b.sized in let k : r < n = omega arith in rw (has_lane n l r before k) (kept r x);
         }
 
-        backs : T (has t o) → T (inLane l (get_or backing o 0) or entryHolds (dual p) (lane n l truth) (lane n l before) (dual p) o)
+        backs : T (has t o) → T (lane_bit l (get_or backing o 0) or entry_holds (dual p) (lane n l truth) (lane n l before) (dual p) o)
         backs x =
             or_mono _ _ _ _
-            (λ (g : T (has (lane n l backing) o)). rw (has-lane n l o backing within) at g)
-            (λ (g : T (entryHolds (dual p) (lane n l truth) t (dual p) o)). entry_more (dual p) (lane n l truth) sub o g)
+            (λ (g : T (has (lane n l backing) o)). rw (has_lane n l o backing within) at g)
+            (λ (g : T (entry_holds (dual p) (lane n l truth) t (dual p) o)). entry_more (dual p) (lane n l truth) sub o g)
             (b.each o x)
 
-  pub dropped-narrows : {visited : ℕ → ℕ} → visited 0 ≡ o → Narrowed visited 1 p truth backing before after
-  dropped-narrows {visited} e = record {
+  pub dropped_narrows : {visited : ℕ → ℕ} → visited 0 ≡ o → Narrowed visited 1 p truth backing before after
+  dropped_narrows {visited} e = record {
     long = ap length one.is ∙ length-set before o new ∙ long;
     beyond = record { at = λ q h. other q (λ z. absurd (omega arith)) };
     less = less;
@@ -158,39 +158,39 @@ module _ {p : Program} {o : ℕ} {truth backing before after : List ℕ} {moved 
   }
 
   -- In a lane that o did not leave nothing changed, so it is still backed there.
-  left-backed : (l : ℕ) → l < 64 → T (inLane l (get_or after o 0))
-      → T (inLane l (get_or backing o 0) or entryHolds (dual p) (lane n l truth) (lane n l after) (dual p) o)
-  left-backed l h x =
-      let kept : T (inLane l (get_or before o 0)
-      and (inLane l (get_or backing o 0) or entryHolds (dual p) (lane n l truth) (lane n l before) (dual p) o)) =
-      rw (← new-lane l h, ← here) x in
+  left_backed : (l : ℕ) → l < 64 → T (lane_bit l (get_or after o 0))
+      → T (lane_bit l (get_or backing o 0) or entry_holds (dual p) (lane n l truth) (lane n l after) (dual p) o)
+  left_backed l h x =
+      let kept : T (lane_bit l (get_or before o 0)
+      and (lane_bit l (get_or backing o 0) or entry_holds (dual p) (lane n l truth) (lane n l before) (dual p) o)) =
+      rw (← new_lane l h, ← here) x in
       rw stays (right _ _ kept) where
         stays : lane n l after ≡ lane n l before
-        stays = set-ext n (lane n l after) (lane n l before) (lane-sized n l after) (lane-sized n l before) (λ q k.
-            has-lane n l q after k
+        stays = set_ext n (lane n l after) (lane n l before) (lane-sized n l after) (lane-sized n l before) (λ q k.
+            has_lane n l q after k
             ∙ elim (ℕ_discrete q o) [
               | yes e ↦ rw e (is_true _ x ∙ sym (is_true _ (less l o x)))
-              | no ne ↦ ap (inLane l) (other q ne)
+              | no ne ↦ ap (lane_bit l) (other q ne)
             ]
-            ∙ sym (has-lane n l q before k))
+            ∙ sym (has_lane n l q before k))
 
   -- A single entry needs one pass.
-  pub dropped-one : {visited : ℕ → ℕ} → visited 0 ≡ o → PartDropped visited 1 p truth backing before after
-  dropped-one {visited} e = record {
-    narrowed = dropped-narrows e;
+  pub dropped_one : {visited : ℕ → ℕ} → visited 0 ≡ o → PartDropped visited 1 p truth backing before after
+  dropped_one {visited} e = record {
+    narrowed = dropped_narrows e;
     backed = record {
       at = λ l i h k x.
           let z : i ≡ 0 = omega arith in
           let q : visited i ≡ o = ap visited z ∙ e in
-          rw q (left-backed l h (rw q at x));
+          rw q (left_backed l h (rw q at x));
     };
   }
 
 -- ---- one pass
 
 module _ (p : Program) (truth backing before : List ℕ) (visited : ℕ → ℕ) where
-  pub dropped-none : length before ≡ 513 → DroppedTo visited 0 p truth backing before before false
-  dropped-none e = record {
+  pub dropped_none : length before ≡ 513 → DroppedTo visited 0 p truth backing before before false
+  dropped_none e = record {
     narrowed = narrowed_none e;
     same = λ q. refl;
     backed = λ q. record { at = λ l i h k x. absurd (omega arith) };
@@ -205,7 +205,7 @@ module _ (p : Program) (truth backing before : List ℕ) (visited : ℕ → ℕ)
 
     narrows : Narrowed visited (i + 1) p truth backing before more
     narrows =
-        narrowed-then d.narrowed (dropped-narrows valid within d.narrowed.long one {visited = λ j. visited i} refl) (omega arith)
+        narrowed_then d.narrowed (dropped_narrows valid within d.narrowed.long one {visited = λ j. visited i} refl) (omega arith)
         (λ j h. (i, (omega arith, refl)))
 
     at_most : total after ≤ total before
@@ -215,23 +215,23 @@ module _ (p : Program) (truth backing before : List ℕ) (visited : ℕ → ℕ)
       go false e = let f = ap total (d.same e) in omega arith
 
     -- Some lanes lost it,
-    pub dropped-less : moved ≡ true → DroppedTo visited (i + 1) p truth backing before more true
-    dropped-less t = record {
+    pub dropped_less : moved ≡ true → DroppedTo visited (i + 1) p truth backing before more true
+    dropped_less t = record {
       narrowed = narrows;
       same = λ q. absurd (true≢false q);
       backed = λ q. absurd (true≢false q);
       fewer = λ q.
           let ne = eqb-false newer (get_or after (visited i) 0) (not-true _ (sym one.told ∙ t)) in
           let a = and_le_l (get_or after (visited i) 0) (bit_or (get_or backing (visited i) 0) one.word) in
-          let s = total-set after (visited i) newer (inside valid within d.narrowed.long one) in
+          let s = total_set after (visited i) newer (inside valid within d.narrowed.long one) in
           let m = at_most in
           let f : newer < get_or after (visited i) 0 = omega (arith, ne) in
           rw one.is (omega arith);
     }
 
     -- or none did.
-    pub dropped-same : moved ≡ false → DroppedTo visited (i + 1) p truth backing before more changed
-    dropped-same t = record {
+    pub dropped_same : moved ≡ false → DroppedTo visited (i + 1) p truth backing before more changed
+    dropped_same t = record {
       narrowed = narrows;
       same = λ q. still ∙ d.same q;
       backed = λ q. record {
@@ -249,12 +249,12 @@ module _ (p : Program) (truth backing before : List ℕ) (visited : ℕ → ℕ)
           ∙ ap (λ (v : ℕ). set after (visited i) v) (eqb-true newer (get_or after (visited i) 0) (not-false _ (sym one.told ∙ t)))
           ∙ set-get_or after (visited i) 0
 
-      backs : changed ≡ false → (l : ℕ) → l < 64 → T (inLane l (get_or before (visited i) 0))
-          → T (inLane l (get_or backing (visited i) 0)
-          or entryHolds (dual p) (lane (judged p.atoms) l truth) (lane (judged p.atoms) l before) (dual p) (visited i))
+      backs : changed ≡ false → (l : ℕ) → l < 64 → T (lane_bit l (get_or before (visited i) 0))
+          → T (lane_bit l (get_or backing (visited i) 0)
+          or entry_holds (dual p) (lane (judged p.atoms) l truth) (lane (judged p.atoms) l before) (dual p) (visited i))
       backs q l h x =
           let e = still ∙ d.same q in
-          rw e at (left-backed valid within d.narrowed.long one l h (rw e x))
+          rw e at (left_backed valid within d.narrowed.long one l h (rw e x))
 
 -- ---- passes until one changes nothing
 
@@ -268,19 +268,19 @@ abbrev pub left_over : List ℕ → Bool → ℕ
 left_over falses going = total falses + cond going 1 0
 
 module _ {visited : ℕ → ℕ} {count : ℕ} {p : Program} {truth backing : List ℕ} where
-  pub dropping-none : {before : List ℕ} → length before ≡ 513 → Dropping visited count p truth backing before before true
-  dropping-none e = record { narrowed = narrowed_none e; backed = λ q. absurd (true≢false q) }
+  pub dropping_none : {before : List ℕ} → length before ≡ 513 → Dropping visited count p truth backing before before true
+  dropping_none e = record { narrowed = narrowed_none e; backed = λ q. absurd (true≢false q) }
 
   module _ {falses after : List ℕ} {changed : Bool} (d : DroppedTo visited count p truth backing falses after changed) where
-    pub dropping-more : {before : List ℕ} {going : Bool} → Dropping visited count p truth backing before falses going
+    pub dropping_more : {before : List ℕ} {going : Bool} → Dropping visited count p truth backing before falses going
         → Dropping visited count p truth backing before after changed
-    dropping-more w = record {
-      narrowed = narrowed-then w.narrowed d.narrowed (omega arith) (λ j h. (j, (h, refl)));
+    dropping_more w = record {
+      narrowed = narrowed_then w.narrowed d.narrowed (omega arith) (λ j h. (j, (h, refl)));
       backed = λ e. subst (BackedTo visited count p truth backing) (sym (d.same e)) (d.backed e);
     }
 
-    pub dropping-less : left_over after changed < left_over falses true
-    dropping-less = go changed refl where
+    pub dropping_less : left_over after changed < left_over falses true
+    dropping_less = go changed refl where
       go : (b : Bool) → changed ≡ b → total after + cond b 1 0 < total falses + 1
       go true e = let f = d.fewer e in omega arith
       go false e = let f = ap total (d.same e) in omega arith

@@ -2,8 +2,8 @@
 -- `negated` are the words of the g whose not(g) hold.
 use Rattle.std.specs.Prelude.{◌≡◌, Bool, false, not, List, map, ℕ, ◌+◌, ◌≤◌, ◌<◌, eqb, length, get_or, take, drop, set}
 use Rattle.std.specs.Int.Bits.{bit_or}
-use Rattle.papers.specs.Program.{Rule, noRule}
-use Rattle.parts.specs.Parts.{placeOf}
+use Rattle.papers.specs.Program.{Rule, no_rule}
+use Rattle.parts.specs.Parts.{place_of}
 use Rattle.papers.specs.Tests.{◌or◌}
 use Rattle.model.specs.Sets.{full}
 use Rattle.model.specs.LeastSet.{least}
@@ -13,31 +13,31 @@ use Rattle.lanes.specs.Words.{OtherLanes, Literals, BodyWord, Laned}
 -- ---- rules as rows
 
 -- The rule whose row stands at a place: its head, how many literals its body has, and these.
-unfoldable pub ruleIn : List ℕ → ℕ → Rule
-ruleIn rows place = record { head = get_or rows place 0; body = take (get_or rows (place + 1) 0) (drop (place + 2) rows) }
+unfoldable pub rule_in : List ℕ → ℕ → Rule
+rule_in rows place = record { head = get_or rows place 0; body = take (get_or rows (place + 1) 0) (drop (place + 2) rows) }
 
 -- That of a visit,
-unfoldable pub visitedRule : List ℕ → ℕ → Rule
-visitedRule rows visit = ruleIn rows (placeOf visit)
+unfoldable pub visited_rule : List ℕ → ℕ → Rule
+visited_rule rows visit = rule_in rows (place_of visit)
 
 -- and those of some visits.
-unfoldable pub rulesIn : List ℕ → List ℕ → List Rule
-rulesIn rows visits = map (visitedRule rows) visits
+unfoldable pub rules_in : List ℕ → List ℕ → List Rule
+rules_in rows visits = map (visited_rule rows) visits
 
 -- A row stands there whole, and there is a word for each of its objective literals.
 pub record RuleStands (rows : List ℕ) (place : ℕ) : Type 0 where
   pub within : place + 2 + get_or rows (place + 1) 0 ≤ length rows
-  pub head : (ruleIn rows place).head < 513
-  pub body : Literals 513 (ruleIn rows place).body
+  pub head : (rule_in rows place).head < 513
+  pub body : Literals 513 (rule_in rows place).body
 
 pub record RulesStand (rows visits : List ℕ) : Type 0 where
-  pub at : (i : ℕ) → i < length visits → RuleStands rows (placeOf (get_or visits i 0))
+  pub at : (i : ℕ) → i < length visits → RuleStands rows (place_of (get_or visits i 0))
 
 -- Rules over the first n objective literals.
 pub record Judged (n : ℕ) (rules : List Rule) : Type 0 where
   pub few : n ≤ 513
-  pub head : (k : ℕ) → k < length rules → (get_or rules k noRule).head < n
-  pub body : (k : ℕ) → k < length rules → Literals n (get_or rules k noRule).body
+  pub head : (k : ℕ) → k < length rules → (get_or rules k no_rule).head < n
+  pub body : (k : ℕ) → k < length rules → Literals n (get_or rules k no_rule).body
 
 -- ---- closing
 
@@ -55,7 +55,7 @@ pub record Raised (r : Rule) (negated before after : List ℕ) (changed : Bool) 
 pub data Passed (rules : List Rule) (negated before : List ℕ) : ℕ → List ℕ → Bool → Type 0 where
   begun : Passed rules negated before 0 before false
   then : {count : ℕ} {words after : List ℕ} {changed more : Bool} → Passed rules negated before count words changed
-      → Raised (get_or rules count noRule) negated words after more → Passed rules negated before (count + 1) after (more or changed)
+      → Raised (get_or rules count no_rule) negated words after more → Passed rules negated before (count + 1) after (more or changed)
 
 -- In each lane the least set that holds the seed and is closed under the rules, of however many objective literals they speak. u does not hold in it.
 -- Past these the words stay.

@@ -5,12 +5,12 @@ use Rattle.literals.specs.Numbering.{judged}
 use Rattle.papers.specs.Program.{Program}
 use Rattle.papers.specs.Valid.{Valid}
 use Rattle.dual.specs.Table.{dual}
-use Rattle.parts.specs.Parts.{placeOf}
-use Rattle.rows.specs.Rows.{entryRow, entry_rows, StandsAt, Stand}
+use Rattle.parts.specs.Parts.{place_of}
+use Rattle.rows.specs.Rows.{entry_row, entry_rows, StandsAt, Stand}
 use Rattle.papers.specs.Tests.{◌and◌, ◌or◌}
 use Rattle.model.specs.Sets.{Set, has}
-use Rattle.model.specs.Falsity.{someHolds, entryHolds}
-use Rattle.lanes.specs.Lanes.{inLane, lane, KeptFrom}
+use Rattle.model.specs.Falsity.{some_holds, entry_holds}
+use Rattle.lanes.specs.Lanes.{lane_bit, lane, KeptFrom}
 use Rattle.lanes.specs.Words.{Literals, total}
 
 -- ---- entries as rows
@@ -19,12 +19,12 @@ use Rattle.lanes.specs.Words.{Literals, total}
 pub record EntryStands (p : Program) (rows : List ℕ) (place : ℕ) : Type 0 where
   pub valid : Valid p
   pub within : get_or rows place 0 < judged p.atoms
-  pub stands : StandsAt (entryRow p (get_or rows place 0)) rows place
+  pub stands : StandsAt (entry_row p (get_or rows place 0)) rows place
 
 -- Entries stand at the visited places,
 pub record EntriesVisited (p : Program) (rows visits : List ℕ) : Type 0 where
   pub valid : Valid p
-  pub at : (i : ℕ) → i < length visits → EntryStands p rows (placeOf (get_or visits i 0))
+  pub at : (i : ℕ) → i < length visits → EntryStands p rows (place_of (get_or visits i 0))
 
 -- and all of them are visited, in parts.
 pub record EntriesStand (p : Program) (rows visits : List ℕ) : Type 0 where
@@ -35,20 +35,20 @@ pub record EntriesStand (p : Program) (rows visits : List ℕ) : Type 0 where
 
 -- In each lane: one of these literals holds, of however many objective literals they speak.
 pub record SomeWord (listed truth falses : List ℕ) (word : ℕ) : Type 0 where
-  pub at : (n l : ℕ) → Literals n listed → inLane l word ≡ someHolds (lane n l truth) (lane n l falses) listed
+  pub at : (n l : ℕ) → Literals n listed → lane_bit l word ≡ some_holds (lane n l truth) (lane n l falses) listed
 
 -- Of some lanes: o has an 08 field each of whose folds has one.
 pub record EntryWord (p : Program) (o : ℕ) (truth falses : List ℕ) (lanes word : ℕ) : Type 0 where
   pub at : (l : ℕ) → l < 64
-      → inLane l word
-      ≡ (inLane l lanes and entryHolds (dual p) (lane (judged p.atoms) l truth) (lane (judged p.atoms) l falses) (dual p) o)
+      → lane_bit l word
+      ≡ (lane_bit l lanes and entry_holds (dual p) (lane (judged p.atoms) l truth) (lane (judged p.atoms) l falses) (dual p) o)
 
 -- ---- the greatest set
 
 -- "Each o in it backed by" what is given, "or an 08 field".
 pub record GivenBacked (p : Program) (given trues set : Set) : Type 0 where
   pub sized : length set ≡ judged p.atoms
-  pub each : (o : ℕ) → T (has set o) → T (has given o or entryHolds (dual p) trues set (dual p) o)
+  pub each : (o : ℕ) → T (has set o) → T (has given o or entry_holds (dual p) trues set (dual p) o)
 
 -- "The greatest set" of this kind.
 pub record GreatestGiven (p : Program) (given trues set : Set) : Type 0 where
@@ -65,7 +65,7 @@ pub record FalseWords (p : Program) (truth backing before after : List ℕ) : Ty
 pub record Dropped (p : Program) (o : ℕ) (truth backing before after : List ℕ) (changed : Bool) : Type 0 where
   pub lanes : ℕ
   pub word : ℕ
-  pub asked : (l : ℕ) → l < 64 → inLane l lanes ≡ (inLane l (get_or before o 0) and not (inLane l (get_or backing o 0)))
+  pub asked : (l : ℕ) → l < 64 → lane_bit l lanes ≡ (lane_bit l (get_or before o 0) and not (lane_bit l (get_or backing o 0)))
   pub holds : EntryWord p o truth before lanes word
   pub is : after ≡ set before o (bit_and (get_or before o 0) (bit_or (get_or backing o 0) word))
   pub told : changed ≡ not (eqb (bit_and (get_or before o 0) (bit_or (get_or backing o 0) word)) (get_or before o 0))
@@ -75,17 +75,17 @@ pub record Narrowed (visited : ℕ → ℕ) (upto : ℕ) (p : Program) (truth ba
   pub long : length after ≡ 513
   pub beyond : KeptFrom (judged p.atoms) before after
   -- Nothing comes in, and only what is visited leaves.
-  pub less : (l o : ℕ) → T (inLane l (get_or after o 0)) → T (inLane l (get_or before o 0))
+  pub less : (l o : ℕ) → T (lane_bit l (get_or after o 0)) → T (lane_bit l (get_or before o 0))
   pub others : (o : ℕ) → ((i : ℕ) → i < upto → visited i ≡ o → ⊥) → get_or after o 0 ≡ get_or before o 0
   -- Nothing of a backed set is lost.
   pub keeps : (l : ℕ) → l < 64 → (t : Set) → GivenBacked p (lane (judged p.atoms) l backing) (lane (judged p.atoms) l truth) t
-      → ((o : ℕ) → T (has t o) → T (inLane l (get_or before o 0))) → (o : ℕ) → T (has t o) → T (inLane l (get_or after o 0))
+      → ((o : ℕ) → T (has t o) → T (lane_bit l (get_or before o 0))) → (o : ℕ) → T (has t o) → T (lane_bit l (get_or after o 0))
 
 -- Of the first `upto` that are visited, what is in is backed.
 pub record BackedTo (visited : ℕ → ℕ) (upto : ℕ) (p : Program) (truth backing falses : List ℕ) : Type 0 where
-  pub at : (l i : ℕ) → l < 64 → i < upto → T (inLane l (get_or falses (visited i) 0))
-      → T (inLane l (get_or backing (visited i) 0)
-      or entryHolds (dual p) (lane (judged p.atoms) l truth) (lane (judged p.atoms) l falses) (dual p) (visited i))
+  pub at : (l i : ℕ) → l < 64 → i < upto → T (lane_bit l (get_or falses (visited i) 0))
+      → T (lane_bit l (get_or backing (visited i) 0)
+      or entry_holds (dual p) (lane (judged p.atoms) l truth) (lane (judged p.atoms) l falses) (dual p) (visited i))
 
 -- A pass: where nothing changed, each of them is backed; where something did, there are fewer.
 pub record DroppedTo (visited : ℕ → ℕ) (upto : ℕ) (p : Program) (truth backing before after : List ℕ) (changed : Bool) : Type 0 where

@@ -1,8 +1,8 @@
 // Falsity from the entries of the dual, in sixty-four scenarios at once: "F(j+1) is the greatest set with each o in it backed".
 // Bit l of word o says whether o is in the set of lane l.
-ghost use Rattle.papers.specs.Reading.{programIn};
+ghost use Rattle.papers.specs.Reading.{program_in};
 ghost use Rattle.lanes.specs.Words.{Literals};
-ghost use Rattle.parts.specs.Parts.{headAt};
+ghost use Rattle.parts.specs.Parts.{head_at};
 ghost use Rattle.closing.specs.FalseWords.{EntryStands, EntriesVisited, EntriesStand, SomeWord, EntryWord, Dropped, DroppedTo, PartDropped, FalseWords};
 ghost use Rattle.std.specs.Prelude.{length, get_or, ◌≡◌};
 
@@ -36,8 +36,8 @@ fn entry_word(
     falses: &[u64; 513],
     lanes: u64,
 ) -> u64
-    requires { EntryStands (programIn file.now) rows.now place }
-    ensures { EntryWord (programIn file.now) (get_or rows.now place 0) truth.now falses.now lanes result }
+    requires { EntryStands (program_in file.now) rows.now place }
+    ensures { EntryWord (program_in file.now) (get_or rows.now place 0) truth.now falses.now lanes result }
 {
     let end = place + 2 + number_in(rows, place + 1);
     let mut word = lanes;
@@ -63,8 +63,8 @@ fn drop_entry(
     backing: &[u64; 513],
     falses: &mut [u64; 513],
 ) -> bool
-    requires { EntryStands (programIn file.now) rows.now place }
-    ensures { Dropped (programIn file.now) (get_or rows.now place 0) truth.now backing.now
+    requires { EntryStands (program_in file.now) rows.now place }
+    ensures { Dropped (program_in file.now) (get_or rows.now place 0) truth.now backing.now
         falses.old falses.new result }
 {
     let o = objective_in(rows, place);
@@ -87,8 +87,8 @@ fn drop_pass(
     backing: &[u64; 513],
     falses: &mut [u64; 513],
 ) -> bool
-    requires { EntriesVisited (programIn file.now) rows.now visits.now × (length falses.old ≡ 513) }
-    ensures { DroppedTo (headAt rows.now visits.now) (length visits.now) (programIn file.now)
+    requires { EntriesVisited (program_in file.now) rows.now visits.now × (length falses.old ≡ 513) }
+    ensures { DroppedTo (head_at rows.now visits.now) (length visits.now) (program_in file.now)
         truth.now backing.now falses.old falses.new result }
 {
     let count = visits.len();
@@ -113,8 +113,8 @@ fn drop_part(
     backing: &[u64; 513],
     falses: &mut [u64; 513],
 )
-    requires { EntriesVisited (programIn file.now) rows.now visits.now × (length falses.old ≡ 513) }
-    ensures { PartDropped (headAt rows.now visits.now) (length visits.now) (programIn file.now)
+    requires { EntriesVisited (program_in file.now) rows.now visits.now × (length falses.old ≡ 513) }
+    ensures { PartDropped (head_at rows.now visits.now) (length visits.now) (program_in file.now)
         truth.now backing.now falses.old falses.new }
 {
     if visits.len() == 1 {
@@ -136,8 +136,8 @@ pub fn close_false(
     backing: &[u64; 513],
     falses: &mut [u64; 513],
 )
-    requires { EntriesStand (programIn file.now) rows.now visits.now }
-    ensures { FalseWords (programIn file.now) truth.now backing.now falses.old falses.new }
+    requires { EntriesStand (program_in file.now) rows.now visits.now }
+    ensures { FalseWords (program_in file.now) truth.now backing.now falses.old falses.new }
 {
     let count = visits.len();
     fill_words(falses, count, 18446744073709551615);

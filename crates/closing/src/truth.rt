@@ -1,7 +1,7 @@
 // The true set, in 64 scenarios at once: part by part, each by passes over its rules until one changes nothing.
 ghost use Rattle.std.specs.Prelude.{length};
 ghost use Rattle.parts.specs.Parts.{Parted};
-ghost use Rattle.closing.specs.Closing.{ruleIn, rulesIn, RuleStands, RulesStand, Raised, Passed, ClosedTrue};
+ghost use Rattle.closing.specs.Closing.{rule_in, rules_in, RuleStands, RulesStand, Raised, Passed, ClosedTrue};
 
 use decoded::{number_in, objective_in};
 use lanes::words::{body_word, lent_known, other_lanes};
@@ -10,7 +10,7 @@ use parts::{part_end, place_of};
 // The rule whose row stands at a place, and whether it changed its head's word.
 fn close_rule(rows: &[u16], place: usize, truth: &mut [u64; 513], falses: &[u64; 513]) -> bool
     requires { RuleStands rows.now place }
-    ensures { Raised (ruleIn rows.now place) falses.now truth.old truth.new result }
+    ensures { Raised (rule_in rows.now place) falses.now truth.old truth.new result }
 {
     let head = objective_in(rows, place);
     let at = head.0;
@@ -27,7 +27,7 @@ fn close_rule(rows: &[u16], place: usize, truth: &mut [u64; 513], falses: &[u64;
 // Each rule once, and whether one of them changed a word.
 fn close_pass(rows: &[u16], visits: &[u16], truth: &mut [u64; 513], falses: &[u64; 513]) -> bool
     requires { RulesStand rows.now visits.now }
-    ensures { Passed (rulesIn rows.now visits.now) falses.now truth.old
+    ensures { Passed (rules_in rows.now visits.now) falses.now truth.old
         (length visits.now) truth.new result }
 {
     let count = visits.len();
@@ -46,7 +46,7 @@ fn close_pass(rows: &[u16], visits: &[u16], truth: &mut [u64; 513], falses: &[u6
 // The true set closed under the rules of some visits. A single rule is closed by one.
 fn close_part(rows: &[u16], visits: &[u16], truth: &mut [u64; 513], falses: &[u64; 513])
     requires { RulesStand rows.now visits.now }
-    ensures { ClosedTrue (rulesIn rows.now visits.now) falses.now truth.old truth.new }
+    ensures { ClosedTrue (rules_in rows.now visits.now) falses.now truth.old truth.new }
 {
     lent_known(truth);
     if visits.len() == 1 {
@@ -62,7 +62,7 @@ fn close_part(rows: &[u16], visits: &[u16], truth: &mut [u64; 513], falses: &[u6
 // Part by part: no rule up to the end of one asks for a head that comes after it.
 pub fn close_true(rows: &[u16], visits: &[u16], truth: &mut [u64; 513], falses: &[u64; 513])
     requires { RulesStand rows.now visits.now × Parted 0 (length visits.now) rows.now visits.now }
-    ensures { ClosedTrue (rulesIn rows.now visits.now) falses.now truth.old truth.new }
+    ensures { ClosedTrue (rules_in rows.now visits.now) falses.now truth.old truth.new }
 {
     lent_known(truth);
     let count = visits.len();

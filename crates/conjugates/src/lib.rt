@@ -1,8 +1,8 @@
 // Document 000, section 2.1: the two conjugates. Document 01, Numberings: their numbers, and what else an objective literal has unless it is falsum.
 // No function has a `requires`.
 ghost use Rattle.std.specs.Prelude.{◌≡◌};
-ghost use Rattle.literals.specs.Section21.{conjD, conjE};
-ghost use Rattle.conjugates.specs.Conjugates.{atomOf, conjugateOf, defaultConjugateOf, defaultNegationOf, literalOf};
+ghost use Rattle.literals.specs.Section21.{conj_d, conj_e};
+ghost use Rattle.conjugates.specs.Conjugates.{atom_of, conjugate_of, default_conjugate_of, default_negation_of, literal_of};
 
 use literals::forms::{Form, FormOf, form_of, literal_number, objective_form};
 use literals::{Atom, Literal, Objective, is_listed, objective_of};
@@ -27,7 +27,7 @@ pub enum LiteralOf {
 }
 
 pub fn atom_of(o: Objective, atoms: u16) -> AtomOf
-    ensures { result ≡ atomOf atoms o.0 }
+    ensures { result ≡ atom_of atoms o.0 }
 {
     if is_listed(o, atoms) {
         AtomOf::Is(Atom((o.0 / 2) as u16))
@@ -38,7 +38,7 @@ pub fn atom_of(o: Objective, atoms: u16) -> AtomOf
 
 // The objective literal itself, as a literal.
 pub fn literal_of(o: Objective, atoms: u16) -> LiteralOf
-    ensures { result ≡ literalOf atoms o.0 }
+    ensures { result ≡ literal_of atoms o.0 }
 {
     if is_listed(o, atoms) {
         LiteralOf::Is(Literal(2 * o.0))
@@ -49,7 +49,7 @@ pub fn literal_of(o: Objective, atoms: u16) -> LiteralOf
 
 // The literal not(o).
 pub fn default_negation(o: Objective, atoms: u16) -> LiteralOf
-    ensures { result ≡ defaultNegationOf atoms o.0 }
+    ensures { result ≡ default_negation_of atoms o.0 }
 {
     if is_listed(o, atoms) {
         LiteralOf::Is(Literal(2 * o.0 + 1))
@@ -61,7 +61,7 @@ pub fn default_negation(o: Objective, atoms: u16) -> LiteralOf
 // "If an objective literal O is an atom A, the explicit conjugate of O (conj_E(O)) is the atom -A; otherwise if O has the form -A, the
 // explicit conjugate of O is A." A default negation has none.
 pub fn explicit_conjugate(l: Form) -> FormOf
-    ensures { result ≡ conjE l }
+    ensures { result ≡ conj_e l }
 {
     match l {
         Form::Atom(a) => FormOf::Is(Form::NegatedAtom(a)),
@@ -73,7 +73,7 @@ pub fn explicit_conjugate(l: Form) -> FormOf
 
 // "the default conjugate (conj_D(O)) of an objective literal O is not(O), and the default conjugate of not(O) is O".
 pub fn default_conjugate(l: Form) -> Form
-    ensures { result ≡ conjD l }
+    ensures { result ≡ conj_d l }
 {
     match l {
         Form::Atom(a) => Form::NotAtom(a),
@@ -85,7 +85,7 @@ pub fn default_conjugate(l: Form) -> Form
 
 // The explicit conjugate, by the numbers of objective literals. Falsum, and a number past it, has none.
 pub fn explicit_conjugate_number(o: Objective, atoms: u16) -> Conjugate
-    ensures { result ≡ conjugateOf atoms o.0 }
+    ensures { result ≡ conjugate_of atoms o.0 }
 {
     let form = objective_form(o, atoms);
     let FormOf::Is(objective) = form else {
@@ -100,7 +100,7 @@ pub fn explicit_conjugate_number(o: Objective, atoms: u16) -> Conjugate
 
 // The default conjugate, by the numbers of literals. A number that is not below 4n has none.
 pub fn default_conjugate_number(l: Literal, atoms: u16) -> LiteralOf
-    ensures { result ≡ defaultConjugateOf atoms l.0 }
+    ensures { result ≡ default_conjugate_of atoms l.0 }
 {
     let form = form_of(l, atoms);
     let FormOf::Is(literal) = form else {

@@ -2,7 +2,7 @@
 // does.
 ghost use Rattle.std.specs.Prelude.{◌≡◌, ◌+◌, ◌<◌, length};
 ghost use Rattle.papers.specs.Field.{number_in, numbers};
-ghost use Rattle.papers.specs.Content.{abduciblesFault, literalAllowed, literalsFault, isAmong, ruleFault, bodyFault};
+ghost use Rattle.papers.specs.Content.{abducibles_fault, literal_allowed, literals_fault, is_among, rule_fault, body_fault};
 
 use conjugates::AtomOf;
 use literals::Atom;
@@ -12,7 +12,7 @@ use numbered::{atom_at, body_literal_at, literal_at, objective_at};
 // Whether the literal at a place may stand there: in a body it may be u.
 fn is_allowed(content: &[u8], place: usize, atoms: u16, in_body: bool) -> bool
     requires { place + 1 < length content.now }
-    ensures { result ≡ literalAllowed in_body atoms (number_in content.now place) }
+    ensures { result ≡ literal_allowed in_body atoms (number_in content.now place) }
 {
     if in_body {
         return is_body_listed(body_literal_at(content, place), atoms);
@@ -21,7 +21,7 @@ fn is_allowed(content: &[u8], place: usize, atoms: u16, in_body: bool) -> bool
 }
 
 pub fn literals_fault(content: &[u8], atoms: u16, in_body: bool) -> u8
-    ensures { result ≡ literalsFault in_body atoms (numbers content.now) }
+    ensures { result ≡ literals_fault in_body atoms (numbers content.now) }
 {
     let count = content.len() / 2;
     let mut i: usize = 0;
@@ -35,7 +35,7 @@ pub fn literals_fault(content: &[u8], atoms: u16, in_body: bool) -> u8
 }
 
 pub fn abducibles_fault(content: &[u8], atoms: u16) -> u8
-    ensures { result ≡ abduciblesFault atoms 0 (numbers content.now) }
+    ensures { result ≡ abducibles_fault atoms 0 (numbers content.now) }
 {
     let count = content.len() / 2;
     let mut least: u32 = 0;
@@ -56,7 +56,7 @@ pub fn abducibles_fault(content: &[u8], atoms: u16) -> u8
 }
 
 pub fn is_among(abducibles: &[u8], atom: Atom) -> bool
-    ensures { result ≡ isAmong (numbers abducibles.now) atom.0 }
+    ensures { result ≡ is_among (numbers abducibles.now) atom.0 }
 {
     let count = abducibles.len() / 2;
     let mut i: usize = 0;
@@ -73,7 +73,7 @@ pub fn is_among(abducibles: &[u8], atom: Atom) -> bool
 // A rule's head, then its body, which is the rest of the content. A head that is not below 2n is of no atom.
 fn rule_fault(content: &[u8], abducibles: &[u8], atoms: u16) -> u8
     requires { 1 < length content.now }
-    ensures { result ≡ ruleFault atoms (numbers abducibles.now) (numbers content.now) }
+    ensures { result ≡ rule_fault atoms (numbers abducibles.now) (numbers content.now) }
 {
     let head = conjugates::atom_of(objective_at(content, 0), atoms);
     let AtomOf::Is(atom) = head else {
@@ -87,7 +87,7 @@ fn rule_fault(content: &[u8], abducibles: &[u8], atoms: u16) -> u8
 
 pub fn body_fault(tag: u8, content: &[u8], abducibles: &[u8], atoms: u16) -> u8
     requires { tag ≡ 4 → 1 < length content.now }
-    ensures { result ≡ bodyFault tag atoms (numbers abducibles.now) (numbers content.now) }
+    ensures { result ≡ body_fault tag atoms (numbers abducibles.now) (numbers content.now) }
 {
     if tag == 0x04 {
         return rule_fault(content, abducibles, atoms);

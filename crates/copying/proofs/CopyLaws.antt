@@ -31,8 +31,8 @@ module _ (bytes before : List ℕ) (at : ℕ) (room : at + length (numbers bytes
 
     module _ (here : i < length bytes / 2) where
       -- There is room for one more,
-      pub copied-room : at + i < length values
-      copied-room =
+      pub copied_room : at + i < length values
+      copied_room =
           let one = read_number bytes i here refl in
           let s = ap length c.split in
           let a = length-append c.copied (numbers (drop (2 * i) bytes)) in
@@ -50,6 +50,6 @@ module _ (bytes before : List ℕ) (at : ℕ) (room : at + length (numbers bytes
             ∙ c.split;
         laid_so =
             ap (λ (l : List ℕ). set l (at + i) x) c.laid_so
-            ∙ laid_one at c.copied before (at + i) x (omega (arith, c.counted)) (omega (arith, copied-room, c.kept));
+            ∙ laid_one at c.copied before (at + i) x (omega (arith, c.counted)) (omega (arith, copied_room, c.kept));
         kept = length-set values (at + i) x ∙ c.kept;
       }

@@ -13,46 +13,46 @@ use Rattle.decimals.proofs.Putting.{put_two}
 
 -- ---- one digit, and one more
 
-digits-one : (room n : ℕ) → n < 10 → digits (suc room) n ≡ (48 + n) ∷ []
+digits_one : (room n : ℕ) → n < 10 → digits (suc room) n ≡ (48 + n) ∷ []
 unfolding digits
-digits-one room n h = rw (lt-ltb n 10 h)
+digits_one room n h = rw (lt-ltb n 10 h)
 
 digits_more : (room n : ℕ) → 10 ≤ n → digits (suc room) n ≡ digits room (n / 10) ++ ((48 + n % 10) ∷ [])
 unfolding digits
 digits_more room n h = rw (le-ltb n 10 h)
 
 -- Where the room is enough, more does not matter.
-digits-room : (room other n : ℕ) → n < room → n < other → digits room n ≡ digits other n
-digits-room zero other n h g = absurd (omega arith)
-digits-room (suc room) zero n h g = absurd (omega arith)
-digits-room (suc room) (suc other) n h g = elim (dec_lt n 10) [
-  | yes small ↦ digits-one room n small ∙ sym (digits-one other n small)
+digits_room : (room other n : ℕ) → n < room → n < other → digits room n ≡ digits other n
+digits_room zero other n h g = absurd (omega arith)
+digits_room (suc room) zero n h g = absurd (omega arith)
+digits_room (suc room) (suc other) n h g = elim (dec_lt n 10) [
+  | yes small ↦ digits_one room n small ∙ sym (digits_one other n small)
   | no large ↦
       digits_more room n (omega arith)
-      ∙ ap (λ (l : List ℕ). l ++ ((48 + n % 10) ∷ [])) (digits-room room other (n / 10) (omega arith) (omega arith))
+      ∙ ap (λ (l : List ℕ). l ++ ((48 + n % 10) ∷ [])) (digits_room room other (n / 10) (omega arith) (omega arith))
       ∙ sym (digits_more other n (omega arith))
 ]
 
-pub decimal-one : (n : ℕ) → n < 10 → decimal n ≡ (48 + n) ∷ []
+pub decimal_one : (n : ℕ) → n < 10 → decimal n ≡ (48 + n) ∷ []
 unfolding decimal
-decimal-one n h = digits-one n n h
+decimal_one n h = digits_one n n h
 
-pub decimal-more : (n : ℕ) → 10 ≤ n → decimal n ≡ decimal (n / 10) ++ ((48 + n % 10) ∷ [])
+pub decimal_more : (n : ℕ) → 10 ≤ n → decimal n ≡ decimal (n / 10) ++ ((48 + n % 10) ∷ [])
 unfolding decimal
-decimal-more n h =
+decimal_more n h =
     digits_more n n h
-    ∙ ap (λ (l : List ℕ). l ++ ((48 + n % 10) ∷ [])) (digits-room n (suc (n / 10)) (n / 10) (omega arith) (omega arith))
+    ∙ ap (λ (l : List ℕ). l ++ ((48 + n % 10) ∷ [])) (digits_room n (suc (n / 10)) (n / 10) (omega arith) (omega arith))
 
 -- ---- how many
 
 -- A number below 10 ^ k has at most k digits, for k above 0.
-pub decimal-length : (k n : ℕ) → n < 10 ^ suc k → length (decimal n) ≤ suc k
-decimal-length zero n h = rw (decimal-one n (omega arith)) (omega arith)
-decimal-length (suc k) n h = elim (dec_lt n 10) [
-  | yes small ↦ rw (decimal-one n small) (omega arith)
+pub decimal_length : (k n : ℕ) → n < 10 ^ suc k → length (decimal n) ≤ suc k
+decimal_length zero n h = rw (decimal_one n (omega arith)) (omega arith)
+decimal_length (suc k) n h = elim (dec_lt n 10) [
+  | yes small ↦ rw (decimal_one n small) (omega arith)
   | no large ↦
-      let ih = decimal-length k (n / 10) (omega arith) in
-      let more = ap length (decimal-more n (omega arith)) in
+      let ih = decimal_length k (n / 10) (omega arith) in
+      let more = ap length (decimal_more n (omega arith)) in
       let l = length-append (decimal (n / 10)) ((48 + n % 10) ∷ []) in
       omega arith
 ]
@@ -60,34 +60,34 @@ decimal-length (suc k) n h = elim (dec_lt n 10) [
 -- ---- read back
 
 -- The number that digits say, after what those before them said.
-unfoldable pub valueAfter : ℕ → List ℕ → ℕ
-valueAfter before [] = before
-valueAfter before (digit ∷ more) = valueAfter (10 * before + (digit - 48)) more
+unfoldable pub value_after : ℕ → List ℕ → ℕ
+value_after before [] = before
+value_after before (digit ∷ more) = value_after (10 * before + (digit - 48)) more
 
-value-append : (before : ℕ) (a b : List ℕ) → valueAfter before (a ++ b) ≡ valueAfter (valueAfter before a) b
-unfolding valueAfter
-value-append before [] b = refl
-value-append before (digit ∷ a) b = value-append (10 * before + (digit - 48)) a b
+value_append : (before : ℕ) (a b : List ℕ) → value_after before (a ++ b) ≡ value_after (value_after before a) b
+unfolding value_after
+value_append before [] b = refl
+value_append before (digit ∷ a) b = value_append (10 * before + (digit - 48)) a b
 
-value-digits : (room n : ℕ) → n < room → valueAfter 0 (digits room n) ≡ n
-unfolding valueAfter
-value-digits zero n h = absurd (omega arith)
-value-digits (suc room) n h = elim (dec_lt n 10) [
-  | yes small ↦ rw (digits-one room n small) (omega arith)
+value_digits : (room n : ℕ) → n < room → value_after 0 (digits room n) ≡ n
+unfolding value_after
+value_digits zero n h = absurd (omega arith)
+value_digits (suc room) n h = elim (dec_lt n 10) [
+  | yes small ↦ rw (digits_one room n small) (omega arith)
   | no large ↦
-      let ih = value-digits room (n / 10) (omega arith) in
-      rw (digits_more room n (omega arith), value-append 0 (digits room (n / 10)) ((48 + n % 10) ∷ []), ih) (omega arith)
+      let ih = value_digits room (n / 10) (omega arith) in
+      rw (digits_more room n (omega arith), value_append 0 (digits room (n / 10)) ((48 + n % 10) ∷ []), ih) (omega arith)
 ]
 
 -- The digits of a number read back as the number.
-pub decimal-read : (n : ℕ) → valueAfter 0 (decimal n) ≡ n
+pub decimal_read : (n : ℕ) → value_after 0 (decimal n) ≡ n
 unfolding decimal
-decimal-read n = value-digits (suc n) n (omega arith)
+decimal_read n = value_digits (suc n) n (omega arith)
 
 leading : (room n : ℕ) → n < room → 0 < n → (48 < get_or (digits room n) 0 0) × (0 < length (digits room n))
 leading zero n h p = absurd (omega arith)
 leading (suc room) n h p = elim (dec_lt n 10) [
-  | yes small ↦ rw (digits-one room n small) (omega arith, omega arith)
+  | yes small ↦ rw (digits_one room n small) (omega arith, omega arith)
   | no large ↦
       let ih = leading room (n / 10) (omega arith) (omega arith) in
       let l = length-append (digits room (n / 10)) ((48 + n % 10) ∷ []) in
@@ -95,20 +95,20 @@ leading (suc room) n h p = elim (dec_lt n 10) [
 ]
 
 -- No number but 0 leads with `0`.
-pub decimal-leading : (n : ℕ) → 0 < n → 48 < get_or (decimal n) 0 0
+pub decimal_leading : (n : ℕ) → 0 < n → 48 < get_or (decimal n) 0 0
 unfolding decimal
-decimal-leading n p = (leading (suc n) n (omega arith) p).0
+decimal_leading n p = (leading (suc n) n (omega arith) p).0
 
 -- ---- put into a buffer
 
 module _ {at : ℕ} {buffer : List ℕ} (n : ℕ) where
-  pub one-put : {end : ℕ} {after : List ℕ} → n < 10 → Put at ((48 + n) ∷ []) buffer end after → Put at (decimal n) buffer end after × (end ≤ at + 20)
-  one-put h put = (rw (decimal-one n h) put, let p = put.place in omega arith)
+  pub one_put : {end : ℕ} {after : List ℕ} → n < 10 → Put at ((48 + n) ∷ []) buffer end after → Put at (decimal n) buffer end after × (end ≤ at + 20)
+  one_put h put = (rw (decimal_one n h) put, let p = put.place in omega arith)
 
-  pub more-put : {next end : ℕ} {between after : List ℕ} → n < 2 ^ 64 → 10 ≤ n → Put at (decimal (n / 10)) buffer next between
+  pub more_put : {next end : ℕ} {between after : List ℕ} → n < 2 ^ 64 → 10 ≤ n → Put at (decimal (n / 10)) buffer next between
       → Put next ((48 + n % 10) ∷ []) between end after → Put at (decimal n) buffer end after × (end ≤ at + 20)
-  more-put {end = end} {after = after} fits h higher last =
+  more_put {end = end} {after = after} fits h higher last =
       let put = put_two (decimal (n / 10)) ((48 + n % 10) ∷ []) higher last in
-      let whole : Put at (decimal n) buffer end after = rw (decimal-more n h) put in
-      let few = decimal-length 19 n (omega arith) in
+      let whole : Put at (decimal n) buffer end after = rw (decimal_more n h) put in
+      let few = decimal_length 19 n (omega arith) in
       (whole, let p = whole.place in omega arith)

@@ -1,6 +1,6 @@
 // The numbers of a row, decoded once a call, and those that are read as one of document 01's numberings.
 ghost use Rattle.std.specs.Prelude.{◌≡◌, ◌<◌, length, get_or};
-ghost use Rattle.literals.specs.BodyLiterals.{bodyLiteral};
+ghost use Rattle.literals.specs.BodyLiterals.{body_literal};
 
 use arrays::wide;
 use literals::Objective;
@@ -25,7 +25,7 @@ pub fn objective_in(row: &[u16], place: usize) -> Objective
 // A literal of a body, a clause or a query: a number or u, which no query has.
 pub fn body_literal_in(row: &[u16], place: usize) -> BodyLiteral
     requires { place < length row.now }
-    ensures { result ≡ bodyLiteral (get_or row.now place 0) }
+    ensures { result ≡ body_literal (get_or row.now place 0) }
 {
     body_literal(number_in(row, place))
 }

@@ -2,8 +2,8 @@
 // explanations and prints them.
 ghost use Rattle.std.specs.Prelude.{◌≡◌, length};
 ghost use Rattle.io.specs.Counts.{IsPrefixLen};
-ghost use Rattle.papers.specs.Reading.{readPapers};
-ghost use Rattle.printout.specs.Output.{deskText};
+ghost use Rattle.papers.specs.Reading.{read_papers};
+ghost use Rattle.printout.specs.Output.{desk_text};
 
 use libc::STDOUT_FILENO;
 use printout::write_report;
@@ -45,7 +45,7 @@ fn read_paper(path: &[u8], paper: &mut [u8]) -> usize
 // Hands to the system's `write` the text that document 01 has printed of these papers. The papers are lent for the contract: nothing is
 // said of the bytes that `write` takes, so here it is said of those that it is given.
 fn print_text(file: &[u8], sheet: &[u8], text: &[u8])
-    requires { text.now ≡ deskText (readPapers file.now sheet.now) }
+    requires { text.now ≡ desk_text (read_papers file.now sheet.now) }
 {
     io::write_all(STDOUT_FILENO, text);
 }

@@ -3,8 +3,8 @@ ghost use Rattle.std.specs.Prelude.{◌≡◌, cond, ◌+◌, ◌%◌, ◌<◌, 
 ghost use Rattle.std.specs.Int.Bits.{bit_or};
 ghost use Rattle.literals.specs.Numbering.{judged};
 ghost use Rattle.papers.specs.declared.FileRead.{FileRead};
-ghost use Rattle.papers.specs.Reading.{readFile, programIn};
-ghost use Rattle.papers.specs.Answers.{fileAnswer};
+ghost use Rattle.papers.specs.Reading.{read_file, program_in};
+ghost use Rattle.papers.specs.Answers.{file_answer};
 ghost use Rattle.lanes.specs.Lanes.{KeptFrom};
 ghost use Rattle.digits.specs.Digits.{LanesBelow, RunLanes, DigitLanes, AbducibleLanes};
 
@@ -82,10 +82,10 @@ pub fn abducible_lanes(
     trues: &mut [u64; 513],
     falses: &mut [u64; 513],
 )
-    requires { (fileAnswer (readFile file.now) ≡ FileRead.Accepted contents) × (base < 4294967296) }
-    ensures { AbducibleLanes (programIn file.now) base trues.new falses.new
-        × KeptFrom (judged (programIn file.now).atoms) trues.old trues.new
-        × KeptFrom (judged (programIn file.now).atoms) falses.old falses.new }
+    requires { (file_answer (read_file file.now) ≡ FileRead.Accepted contents) × (base < 4294967296) }
+    ensures { AbducibleLanes (program_in file.now) base trues.new falses.new
+        × KeptFrom (judged (program_in file.now).atoms) trues.old trues.new
+        × KeptFrom (judged (program_in file.now).atoms) falses.old falses.new }
 {
     let judged = literals::judged(contents.atoms);
     fill_words(trues, judged, 0);

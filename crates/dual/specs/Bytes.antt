@@ -2,10 +2,10 @@
 use Rattle.std.specs.Prelude.{◌≡◌, List, ◌++◌, ℕ, length, drop}
 use Rattle.papers.specs.Program.{Program}
 use Rattle.dual.specs.Table.{dual}
-use Rattle.dual.specs.TableEncoding.{encodeDual}
+use Rattle.dual.specs.TableEncoding.{encode_dual}
 
-abbrev pub dualOf : Program → List ℕ
-dualOf p = encodeDual (dual p)
+abbrev pub dual_of : Program → List ℕ
+dual_of p = encode_dual (dual p)
 
 -- "The writer fills the lent buffer from its start; bytes beyond stay."
 abbrev pub filled : List ℕ → List ℕ → List ℕ

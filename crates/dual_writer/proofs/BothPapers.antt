@@ -17,49 +17,49 @@ use Rattle.papers.specs.Program.{Program, Query}
 use Rattle.papers.specs.Valid.{ValidQuery}
 use Rattle.papers.specs.Field.{numbers}
 use Rattle.papers.specs.Outcome.{Outcome, accepted}
-use Rattle.papers.specs.Reading.{readPapers, programIn, Papers}
-use Rattle.papers.specs.Answers.{papersAnswer}
+use Rattle.papers.specs.Reading.{read_papers, program_in, Papers}
+use Rattle.papers.specs.Answers.{papers_answer}
 use Rattle.papers.specs.declared.Bare.TheVariants as bare
-use Rattle.papers.specs.Told.{tells, bareTold}
+use Rattle.papers.specs.Told.{tells, bare_told}
 use Rattle.papers.proofs.NumberLaws.{Bytes}
-use Rattle.papers.proofs.ReadersGot.{papers-accepted}
+use Rattle.papers.proofs.ReadersGot.{papers_accepted}
 use Rattle.papers.proofs.BothAccepted.{BothTold}
 use Rattle.dual_writer.specs.contracts.DualWritten.{the_type}
 use Rattle.dual_writer.specs.declared.DualWritten.{DualWritten}
 use Rattle.dual_writer.specs.declared.DualWritten.TheVariants.{Length, Short, Refused}
-use Rattle.dual.specs.Bytes.{dualOf, filled}
-use Rattle.dual_writer.specs.WrittenDual.{writtenTold, dualTold, dualAfter}
-use Rattle.dual_writer.proofs.WrittenTold.{writtenFrom, written_from}
-use Rattle.papers.proofs.FileFacts.{program-valid, abducibles-are}
+use Rattle.dual.specs.Bytes.{dual_of, filled}
+use Rattle.dual_writer.specs.WrittenDual.{written_told, dual_told, dual_after}
+use Rattle.dual_writer.proofs.WrittenTold.{written_from, written_from_lem}
+use Rattle.papers.proofs.FileFacts.{program_valid, abducibles_are}
 
 -- ---- the papers
 
 -- The papers, with the query's bytes as the code takes them from the sheet.
-abbrev pub papersIn : List ℕ → List ℕ → ℕ → Papers
-papersIn file sheet literals = record { program = programIn file; query = numbers (take (3 + 2 * literals - 3) (drop 3 sheet)) }
+abbrev pub papers_in : List ℕ → List ℕ → ℕ → Papers
+papers_in file sheet literals = record { program = program_in file; query = numbers (take (3 + 2 * literals - 3) (drop 3 sheet)) }
 
 module _ {file sheet : List ℕ} {contents : Contents} {literals : ℕ} (both : BothTold file sheet contents literals) where
-  pub query-is : Bytes sheet → numbers (take (3 + 2 * literals - 3) (drop 3 sheet)) ≡ both.query
-  query-is b =
+  pub query_is : Bytes sheet → numbers (take (3 + 2 * literals - 3) (drop 3 sheet)) ≡ both.query
+  query_is b =
       let e : 3 + 2 * literals - 3 ≡ 2 * literals = omega arith in
       ap (λ (n : ℕ). numbers (take n (drop 3 sheet))) e ∙ both.written b
 
-  pub both_read : Bytes sheet → readPapers file sheet ≡ accepted (papersIn file sheet literals)
-  both_read b = both.is ∙ ap (λ (q : Query). accepted (record { program = programIn file; query = q })) (sym (query-is b))
+  pub both_read : Bytes sheet → read_papers file sheet ≡ accepted (papers_in file sheet literals)
+  both_read b = both.is ∙ ap (λ (q : Query). accepted (record { program = program_in file; query = q })) (sym (query_is b))
 
-  pub both-asked : Bytes sheet → ValidQuery (programIn file).atoms (papersIn file sheet literals).query
-  both-asked b = rw (query-is b) both.valid
+  pub both_asked : Bytes sheet → ValidQuery (program_in file).atoms (papers_in file sheet literals).query
+  both_asked b = rw (query_is b) both.valid
 
-  pub few-abducibles : contents.abducibles ≤ 16
-  few-abducibles =
-      let v = (program-valid file contents both.answer).fewAbducibles in
-      let e = abducibles-are file contents both.answer in
+  pub few_abducibles_lem : contents.abducibles ≤ 16
+  few_abducibles_lem =
+      let v = (program_valid file contents both.answer).few_abducibles in
+      let e = abducibles_are file contents both.answer in
       omega arith
 
-  pub few-literals : papersAnswer (readPapers file sheet) ≡ Accepted contents literals → literals ≤ 16
-  few-literals e =
-      let q = papers-accepted (readPapers file sheet) (sym e) refl in
-      let same : accepted q.papers ≡ accepted (record { program = programIn file; query = both.query }) = sym q.is ∙ both.is in
+  pub few_literals : papers_answer (read_papers file sheet) ≡ Accepted contents literals → literals ≤ 16
+  few_literals e =
+      let q = papers_accepted (read_papers file sheet) (sym e) refl in
+      let same : accepted q.papers ≡ accepted (record { program = program_in file; query = both.query }) = sym q.is ∙ both.is in
       let query : q.papers.query ≡ both.query = cc in
       let few = both.valid.few in
       let size = q.size in
@@ -67,57 +67,57 @@ module _ {file sheet : List ℕ} {contents : Contents} {literals : ℕ} (both : 
       omega arith
 
   -- How many scenarios there are.
-  pub scenarios-are : {total : ℕ} → total ≡ 3 ^ contents.abducibles → total ≡ 3 ^ length (programIn file).abducibles
-  scenarios-are counted = counted ∙ ap (λ (n : ℕ). 3 ^ n) (sym (abducibles-are file contents both.answer))
+  pub scenarios_are : {total : ℕ} → total ≡ 3 ^ contents.abducibles → total ≡ 3 ^ length (program_in file).abducibles
+  scenarios_are counted = counted ∙ ap (λ (n : ℕ). 3 ^ n) (sym (abducibles_are file contents both.answer))
 
 -- ---- the dual
 
 -- One of the two other answers was told: it is no length.
-pub other-told : (w : DualWritten) → OneOf (1 ∷ 2 ∷ []) (tag_of the_type w) → (n : ℕ) → w ≡ Length n → ⊥
-other-told (Length m) k n e = ⊎_elim (λ (h : ◌≡◌ {A = ℕ} 0 1). omega arith) (λ (h : ◌≡◌ {A = ℕ} 0 2). omega arith) k
-other-told Short k n e = true≢false cc
-other-told (Refused r) k n e = true≢false cc
+pub other_told : (w : DualWritten) → OneOf (1 ∷ 2 ∷ []) (tag_of the_type w) → (n : ℕ) → w ≡ Length n → ⊥
+other_told (Length m) k n e = ⊎_elim (λ (h : ◌≡◌ {A = ℕ} 0 1). omega arith) (λ (h : ◌≡◌ {A = ℕ} 0 2). omega arith) k
+other_told Short k n e = true≢false cc
+other_told (Refused r) k n e = true≢false cc
 
 -- What writing has to tell, by whether it fits.
-told-by : {p : Program} {o : Outcome Program} → o ≡ accepted p → (room : ℕ) (b : Bool) → leb (length (dualOf p)) room ≡ b
-    → dualTold o room ≡ cond b (tells (length (dualOf p))) (bareTold bare.ShortDual)
-unfolding dualTold
-told-by is room b h = rw (is, h)
+told_by_lem : {p : Program} {o : Outcome Program} → o ≡ accepted p → (room : ℕ) (b : Bool) → leb (length (dual_of p)) room ≡ b
+    → dual_told o room ≡ cond b (tells (length (dual_of p))) (bare_told bare.ShortDual)
+unfolding dual_told
+told_by_lem is room b h = rw (is, h)
 
 module _ {p : Program} {o : Outcome Program} (is : o ≡ accepted p) (dual : List ℕ) {written : DualWritten}
-    (told : writtenTold written ≡ dualTold o (length dual)) where
+    (told : written_told written ≡ dual_told o (length dual)) where
   -- It was written, or can be.
-  pub dual-fits : {n : ℕ} → written ≡ Length n → length (dualOf p) ≤ length dual
-  unfolding writtenTold bareTold
-  dual-fits {n} e = go (leb (length (dualOf p)) (length dual)) refl
+  pub dual_fits : {n : ℕ} → written ≡ Length n → length (dual_of p) ≤ length dual
+  unfolding written_told bare_told
+  dual_fits {n} e = go (leb (length (dual_of p)) (length dual)) refl
     where
-      go : (b : Bool) → leb (length (dualOf p)) (length dual) ≡ b → length (dualOf p) ≤ length dual
-      go true h = leb-true (length (dualOf p)) (length dual) h
-      go false h = absurd (let q = sym (ap writtenTold e) ∙ told ∙ told-by is (length dual) false h in true≢false cc)
+      go : (b : Bool) → leb (length (dual_of p)) (length dual) ≡ b → length (dual_of p) ≤ length dual
+      go true h = leb-true (length (dual_of p)) (length dual) h
+      go false h = absurd (let q = sym (ap written_told e) ∙ told ∙ told_by_lem is (length dual) false h in true≢false cc)
 
   -- There is no room for it.
-  pub dual-short : ((n : ℕ) → written ≡ Length n → ⊥) → length dual < length (dualOf p)
-  dual-short none = go (leb (length (dualOf p)) (length dual)) refl
+  pub dual_short : ((n : ℕ) → written ≡ Length n → ⊥) → length dual < length (dual_of p)
+  dual_short none = go (leb (length (dual_of p)) (length dual)) refl
     where
-      go : (b : Bool) → leb (length (dualOf p)) (length dual) ≡ b → length dual < length (dualOf p)
-      go true h = absurd (none (length (dualOf p)) (sym (written_from written) ∙ ap writtenFrom (told ∙ told-by is (length dual) true h)))
-      go false h = leb-false (length (dualOf p)) (length dual) h
+      go : (b : Bool) → leb (length (dual_of p)) (length dual) ≡ b → length dual < length (dual_of p)
+      go true h = absurd (none (length (dual_of p)) (sym (written_from_lem written) ∙ ap written_from (told ∙ told_by_lem is (length dual) true h)))
+      go false h = leb-false (length (dual_of p)) (length dual) h
 
 -- The lent buffer afterwards.
 module _ {p : Program} {o : Outcome Program} (is : o ≡ accepted p) (allowed : Bool) (dual : List ℕ) {after : List ℕ}
-    (left : after ≡ cond allowed (dualAfter o dual) dual) where
-  pub dual-stays : length dual < length (dualOf p) → after ≡ dual
-  dual-stays h =
-      left ∙ ap (λ (x : Outcome Program). cond allowed (dualAfter x dual) dual) is ∙ rw (lt-leb (length (dualOf p)) (length dual) h) (go allowed)
+    (left : after ≡ cond allowed (dual_after o dual) dual) where
+  pub dual_stays : length dual < length (dual_of p) → after ≡ dual
+  dual_stays h =
+      left ∙ ap (λ (x : Outcome Program). cond allowed (dual_after x dual) dual) is ∙ rw (lt-leb (length (dual_of p)) (length dual) h) (go allowed)
     where
       go : (b : Bool) → cond b dual dual ≡ dual
       go true = refl
       go false = refl
 
-  pub dual-kept : allowed ≡ false → after ≡ dual
-  dual-kept e = left ∙ ap (λ (b : Bool). cond b (dualAfter o dual) dual) e
+  pub dual_kept : allowed ≡ false → after ≡ dual
+  dual_kept e = left ∙ ap (λ (b : Bool). cond b (dual_after o dual) dual) e
 
-  pub dual-filled : allowed ≡ true → length (dualOf p) ≤ length dual → after ≡ filled (dualOf p) dual
-  dual-filled e h =
-      left ∙ ap (λ (b : Bool). cond b (dualAfter o dual) dual) e ∙ ap (λ (x : Outcome Program). dualAfter x dual) is
-      ∙ rw (le-leb (length (dualOf p)) (length dual) h)
+  pub dual_filled : allowed ≡ true → length (dual_of p) ≤ length dual → after ≡ filled (dual_of p) dual
+  dual_filled e h =
+      left ∙ ap (λ (b : Bool). cond b (dual_after o dual) dual) e ∙ ap (λ (x : Outcome Program). dual_after x dual) is
+      ∙ rw (le-leb (length (dual_of p)) (length dual) h)

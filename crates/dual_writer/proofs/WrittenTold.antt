@@ -3,23 +3,23 @@
 use mathlib.Core.Path.{◌≡◌, refl}
 use Prim.Native.Nat.{ℕ}
 use Rattle.papers.specs.Outcome.{refusal}
-use Rattle.papers.proofs.ToldLaws.{told-fixes}
-use Rattle.papers.specs.Told.{Told, tells, refusedBy, refusedAt, bareTold, refusalTold}
+use Rattle.papers.proofs.ToldLaws.{told_fixes}
+use Rattle.papers.specs.Told.{Told, tells, refused_by, refused_at, bare_told, refusal_told}
 use Rattle.dual_writer.specs.declared.DualWritten.{DualWritten}
 use Rattle.dual_writer.specs.declared.DualWritten.TheVariants.{Length, Short, Refused}
-use Rattle.dual_writer.specs.WrittenDual.{writtenTold}
+use Rattle.dual_writer.specs.WrittenDual.{written_told}
 
 -- Writing is refused by one number that names no paper.
-abbrev pub writtenFrom : Told ℕ → DualWritten
-writtenFrom (tells n) = Length n
-writtenFrom (refusedBy n) = Short
-writtenFrom (refusedAt n paper place) = Refused (refusal n paper place)
+abbrev pub written_from : Told ℕ → DualWritten
+written_from (tells n) = Length n
+written_from (refused_by n) = Short
+written_from (refused_at n paper place) = Refused (refusal n paper place)
 
-pub written_from : (r : DualWritten) → writtenFrom (writtenTold r) ≡ r
-unfolding writtenTold bareTold refusalTold
-written_from (Length n) = refl
-written_from Short = refl
-written_from (Refused r) = refl
+pub written_from_lem : (r : DualWritten) → written_from (written_told r) ≡ r
+unfolding written_told bare_told refusal_told
+written_from_lem (Length n) = refl
+written_from_lem Short = refl
+written_from_lem (Refused r) = refl
 
-pub written-fixed : {r s : DualWritten} → writtenTold r ≡ writtenTold s → r ≡ s
-written-fixed = told-fixes writtenTold writtenFrom written_from
+pub written_fixed : {r s : DualWritten} → written_told r ≡ written_told s → r ≡ s
+written_fixed = told_fixes written_told written_from written_from_lem

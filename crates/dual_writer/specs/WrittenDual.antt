@@ -3,23 +3,23 @@ use Rattle.std.specs.Prelude.{cond, List, ℕ, leb, length}
 use Rattle.papers.specs.Program.{Program}
 use Rattle.papers.specs.Outcome.{Outcome, accepted, refused}
 use Rattle.papers.specs.declared.Bare.TheVariants as bare
-use Rattle.papers.specs.Told.{Told, tells, bareTold, refusalTold}
-use Rattle.dual.specs.Bytes.{dualOf, filled}
+use Rattle.papers.specs.Told.{Told, tells, bare_told, refusal_told}
+use Rattle.dual.specs.Bytes.{dual_of, filled}
 use Rattle.dual_writer.specs.declared.DualWritten.{DualWritten}
 use Rattle.dual_writer.specs.declared.DualWritten.TheVariants.{Length, Short, Refused}
 
 -- What each answer tells: "the answer is the dual's length".
-unfoldable pub writtenTold : DualWritten → Told ℕ
-writtenTold (Length n) = tells n
-writtenTold Short = bareTold bare.ShortDual
-writtenTold (Refused r) = refusalTold r
+unfoldable pub written_told : DualWritten → Told ℕ
+written_told (Length n) = tells n
+written_told Short = bare_told bare.ShortDual
+written_told (Refused r) = refusal_told r
 
 -- What writing has to tell. 11: "lent dual buffer shorter than the dual"; `room` is the length of the lent buffer.
-unfoldable pub dualTold : Outcome Program → ℕ → Told ℕ
-dualTold (accepted p) room = cond (leb (length (dualOf p)) room) (tells (length (dualOf p))) (bareTold bare.ShortDual)
-dualTold (refused r) room = refusalTold r
+unfoldable pub dual_told : Outcome Program → ℕ → Told ℕ
+dual_told (accepted p) room = cond (leb (length (dual_of p)) room) (tells (length (dual_of p))) (bare_told bare.ShortDual)
+dual_told (refused r) room = refusal_told r
 
 -- The buffer afterwards: unchanged on refusal.
-abbrev pub dualAfter : Outcome Program → List ℕ → List ℕ
-dualAfter (accepted p) buffer = cond (leb (length (dualOf p)) (length buffer)) (filled (dualOf p) buffer) buffer
-dualAfter (refused r) buffer = buffer
+abbrev pub dual_after : Outcome Program → List ℕ → List ℕ
+dual_after (accepted p) buffer = cond (leb (length (dual_of p)) (length buffer)) (filled (dual_of p) buffer) buffer
+dual_after (refused r) buffer = buffer

@@ -1,7 +1,7 @@
 // The folds by their heads: one pass over the rules links those of each objective literal, so that
 // no literal asks for a pass of its own.
 ghost use Rattle.std.specs.Prelude.{◌≡◌, ◌<◌, get_or};
-ghost use Rattle.papers.specs.Reading.{programIn};
+ghost use Rattle.papers.specs.Reading.{program_in};
 ghost use Rattle.papers.specs.Places.{Walked};
 ghost use Rattle.dual_writer.specs.Chains.{ChainsOf};
 
@@ -27,7 +27,7 @@ pub(crate) fn next_fold(next: &[usize; 1280], fold: Fold) -> Fold
 // From the last rule to the first, so that each chain rises.
 pub(crate) fn fold_chains(file: &[u8], contents: Contents, places: &[usize; 1280]) -> Chains
     requires { Walked file.now contents places.now }
-    ensures { ChainsOf (programIn file.now) result.first result.next }
+    ensures { ChainsOf (program_in file.now) result.first result.next }
 {
     let rules = contents.rules;
     let integrity = contents.integrity;

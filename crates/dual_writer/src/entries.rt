@@ -1,15 +1,15 @@
 // The entry of one objective literal: its length, and its fields.
 ghost use Rattle.std.specs.Prelude.{◌≡◌, cond, ◌+◌, ◌*◌, ◌<◌, ◌≤◌, length};
-ghost use Rattle.papers.specs.Program.{allRules};
-ghost use Rattle.literals.specs.Numbering.{atomNumber};
+ghost use Rattle.papers.specs.Program.{all_rules};
+ghost use Rattle.literals.specs.Numbering.{atom_number};
 ghost use Rattle.papers.specs.declared.FileRead.{FileRead};
-ghost use Rattle.papers.specs.Content.{isAmong};
-ghost use Rattle.papers.specs.Reading.{readFile, programIn};
-ghost use Rattle.papers.specs.Answers.{fileAnswer};
-ghost use Rattle.dual.specs.Table.{hasEntry, isFact, entry, entryIfAny, dual};
-ghost use Rattle.dual.specs.TableEncoding.{encodeFields};
+ghost use Rattle.papers.specs.Content.{is_among};
+ghost use Rattle.papers.specs.Reading.{read_file, program_in};
+ghost use Rattle.papers.specs.Answers.{file_answer};
+ghost use Rattle.dual.specs.Table.{has_entry, is_fact, entry, entry_if_any, dual};
+ghost use Rattle.dual.specs.TableEncoding.{encode_fields};
 ghost use Rattle.dual.specs.Bytes.{Fills};
-ghost use Rattle.dual.specs.Length.{rulesLength, dualLength};
+ghost use Rattle.dual.specs.Length.{rules_length, dual_length};
 ghost use Rattle.dual_writer.specs.Chains.{Chained};
 
 use crate::chains::next_fold;
@@ -28,7 +28,7 @@ fn rules_length(
     o: Objective,
 ) -> usize
     requires { Chained file.now contents places.now first.now next.now × (o.0 < 513) }
-    ensures { (result ≡ cond (isFact (allRules (programIn file.now)) o.0) 0 (5 + rulesLength (allRules (programIn file.now)) o.0))
+    ensures { (result ≡ cond (is_fact (all_rules (program_in file.now)) o.0) 0 (5 + rules_length (all_rules (program_in file.now)) o.0))
         × (result < 65536) }
 {
     let at = o.0;
@@ -48,8 +48,8 @@ fn rules_length(
 
 // Whether it is an abducible atom or its negation. Falsum is of no atom.
 fn is_abducible(file: &[u8], contents: Contents, o: Objective) -> bool
-    requires { fileAnswer (readFile file.now) ≡ FileRead.Accepted contents }
-    ensures { result ≡ isAmong (programIn file.now).abducibles (atomNumber o.0) }
+    requires { file_answer (read_file file.now) ≡ FileRead.Accepted contents }
+    ensures { result ≡ is_among (program_in file.now).abducibles (atom_number o.0) }
 {
     let owner = conjugates::atom_of(o, contents.atoms);
     let AtomOf::Is(atom) = owner else {
@@ -69,7 +69,7 @@ pub(crate) fn entry_length(
     o: Objective,
 ) -> usize
     requires { Chained file.now contents places.now first.now next.now × (o.0 < 513) }
-    ensures { (result ≡ cond (hasEntry (programIn file.now) o.0) (5 + rulesLength (allRules (programIn file.now)) o.0) 0)
+    ensures { (result ≡ cond (has_entry (program_in file.now) o.0) (5 + rules_length (all_rules (program_in file.now)) o.0) 0)
         × (result < 65536) }
 {
     if is_abducible(file, contents, o) {
@@ -87,7 +87,7 @@ pub(crate) fn dual_length(
     next: &[usize; 1280],
 ) -> usize
     requires { Chained file.now contents places.now first.now next.now }
-    ensures { result ≡ dualLength (programIn file.now) }
+    ensures { result ≡ dual_length (program_in file.now) }
 {
     let judged = literals::judged(contents.atoms);
     let mut total: usize = 0;
@@ -111,8 +111,8 @@ fn write_entry(
     o: Objective,
 ) -> usize
     requires { Chained file.now contents places.now first.now next.now × ((o.0 < 513)
-        × (length (encodeFields (entry (programIn file.now) o.0)) ≤ length buffer.old)) }
-    ensures { Fills (encodeFields (entry (programIn file.now) o.0)) buffer.old result buffer.new }
+        × (length (encode_fields (entry (program_in file.now) o.0)) ≤ length buffer.old)) }
+    ensures { Fills (encode_fields (entry (program_in file.now) o.0)) buffer.old result buffer.new }
 {
     let at = o.0;
     let number = first[at];
@@ -139,8 +139,8 @@ fn write_any_entry(
     o: Objective,
 ) -> usize
     requires { Chained file.now contents places.now first.now next.now × ((o.0 < 513)
-        × (length (encodeFields (entryIfAny (programIn file.now) o.0)) ≤ length buffer.old)) }
-    ensures { Fills (encodeFields (entryIfAny (programIn file.now) o.0)) buffer.old result buffer.new }
+        × (length (encode_fields (entry_if_any (program_in file.now) o.0)) ≤ length buffer.old)) }
+    ensures { Fills (encode_fields (entry_if_any (program_in file.now) o.0)) buffer.old result buffer.new }
 {
     if entry_length(file, contents, places, first, next, o) == 0 {
         return 0;
@@ -158,8 +158,8 @@ pub(crate) fn write_entries(
     next: &[usize; 1280],
 ) -> usize
     requires { Chained file.now contents places.now first.now next.now
-        × (dualLength (programIn file.now) ≤ length buffer.old) }
-    ensures { Fills (encodeFields (dual (programIn file.now))) buffer.old result buffer.new }
+        × (dual_length (program_in file.now) ≤ length buffer.old) }
+    ensures { Fills (encode_fields (dual (program_in file.now))) buffer.old result buffer.new }
 {
     let judged = literals::judged(contents.atoms);
     let mut end: usize = 0;

@@ -4,9 +4,9 @@ mod entries;
 mod writing;
 
 ghost use Rattle.std.specs.Prelude.{◌≡◌, cond, length};
-ghost use Rattle.papers.specs.Reading.{readFile};
+ghost use Rattle.papers.specs.Reading.{read_file};
 ghost use Rattle.papers.specs.Places.{Walked};
-ghost use Rattle.dual_writer.specs.WrittenDual.{writtenTold, dualTold, dualAfter};
+ghost use Rattle.dual_writer.specs.WrittenDual.{written_told, dual_told, dual_after};
 
 use chains::fold_chains;
 use entries::{dual_length, write_entries};
@@ -30,8 +30,8 @@ pub fn write_accepted(
     allowed: bool,
 ) -> DualWritten
     requires { Walked file.now contents places.now }
-    ensures { (writtenTold result ≡ dualTold (readFile file.now) (length dual.old))
-        × (dual.new ≡ cond allowed (dualAfter (readFile file.now) dual.old) dual.old) }
+    ensures { (written_told result ≡ dual_told (read_file file.now) (length dual.old))
+        × (dual.new ≡ cond allowed (dual_after (read_file file.now) dual.old) dual.old) }
 {
     let chains = fold_chains(file, contents, places);
     let first = chains.first;
@@ -49,8 +49,8 @@ pub fn write_accepted(
 }
 
 pub fn write_dual(file: &[u8], dual: &mut [u8]) -> DualWritten
-    ensures { (writtenTold result ≡ dualTold (readFile file.now) (length dual.old))
-        × (dual.new ≡ dualAfter (readFile file.now) dual.old) }
+    ensures { (written_told result ≡ dual_told (read_file file.now) (length dual.old))
+        × (dual.new ≡ dual_after (read_file file.now) dual.old) }
 {
     let read = reading::read_file(file);
     let FileRead::Accepted(contents) = read else {

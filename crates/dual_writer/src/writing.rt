@@ -1,11 +1,11 @@
 // One field of the dual, written into the part of the buffer that it is lent.
 ghost use Rattle.std.specs.Prelude.{◌≡◌, ◌∷◌, map, ◌+◌, ◌*◌, ◌<◌, ◌≤◌, length};
-ghost use Rattle.literals.specs.Numbering.{defaultConjugate};
-ghost use Rattle.literals.specs.BodyLiterals.{bodyNumber, bodyConjugate, conjugateNumber};
+ghost use Rattle.literals.specs.Numbering.{default_conjugate};
+ghost use Rattle.literals.specs.BodyLiterals.{body_number, body_conjugate, conjugate_number};
 ghost use Rattle.papers.specs.Field.{numbers};
-ghost use Rattle.papers.specs.Encoding.{encodeNumbers, encodeField};
+ghost use Rattle.papers.specs.Encoding.{encode_numbers, encode_field};
 ghost use Rattle.dual.specs.Bytes.{filled};
-ghost use Rattle.dual_writer.specs.Chains.{Chain, foldsAt};
+ghost use Rattle.dual_writer.specs.Chains.{Chain, folds_at};
 
 use crate::chains::next_fold;
 use conjugates::LiteralOf;
@@ -17,7 +17,7 @@ use numbered::body_literal_at;
 // The default conjugate of a literal that was read: two bytes, so it is one of 16,384 atoms, whatever the file's count.
 fn conjugate_of(l: Literal) -> Literal
     requires { l.0 < 65536 }
-    ensures { (result.0 ≡ defaultConjugate l.0) × (result.0 < 65536) }
+    ensures { (result.0 ≡ default_conjugate l.0) × (result.0 < 65536) }
 {
     let conjugate = conjugates::default_conjugate_number(l, 16384);
     let LiteralOf::Is(other) = conjugate else {
@@ -28,8 +28,8 @@ fn conjugate_of(l: Literal) -> Literal
 
 // The default conjugate of a body literal that was read: "Its default conjugate is itself", where it is u.
 fn body_conjugate(l: BodyLiteral) -> BodyLiteral
-    requires { bodyNumber l < 65536 }
-    ensures { (result ≡ bodyConjugate l) × (bodyNumber result < 65536) }
+    requires { body_number l < 65536 }
+    ensures { (result ≡ body_conjugate l) × (body_number result < 65536) }
 {
     match l {
         BodyLiteral::Is(literal) => BodyLiteral::Is(conjugate_of(literal)),
@@ -45,7 +45,7 @@ pub(crate) fn write_fold(buffer: &mut [u8], fold: Fold, body: &[u8]) -> usize
         × (length body.now ≡ 2 * length (numbers body.now)))) }
     ensures { (result ≡ 5 + length body.now)
         × (buffer.new
-        ≡ filled (encodeField 0x09 (encodeNumbers (fold.0 ∷ map conjugateNumber (numbers body.now)))) buffer.old) }
+        ≡ filled (encode_field 0x09 (encode_numbers (fold.0 ∷ map conjugate_number (numbers body.now)))) buffer.old) }
 {
     let size = body.len();
     put_heading(buffer, 0x09, 2 + size, fold.0);
@@ -62,8 +62,8 @@ pub(crate) fn write_fold(buffer: &mut [u8], fold: Fold, body: &[u8]) -> usize
 
 // How many folds a chain has.
 fn fold_count(next: &[usize; 1280], start: Fold) -> usize
-    requires { Chain next.now start.0 (foldsAt next.now start.0) }
-    ensures { (result ≡ length (foldsAt next.now start.0)) × (result ≤ 1280) }
+    requires { Chain next.now start.0 (folds_at next.now start.0) }
+    ensures { (result ≡ length (folds_at next.now start.0)) × (result ≤ 1280) }
 {
     let mut count: usize = 0;
     let mut fold = start;
@@ -81,11 +81,11 @@ pub(crate) fn write_literal(
     start: Fold,
     o: Objective,
 ) -> usize
-    requires { Chain next.now start.0 (foldsAt next.now start.0)
-        × ((5 + 2 * length (foldsAt next.now start.0) ≤ length buffer.old)
+    requires { Chain next.now start.0 (folds_at next.now start.0)
+        × ((5 + 2 * length (folds_at next.now start.0) ≤ length buffer.old)
         × (o.0 < 65536)) }
-    ensures { (result ≡ 5 + 2 * length (foldsAt next.now start.0))
-        × (buffer.new ≡ filled (encodeField 0x08 (encodeNumbers (o.0 ∷ foldsAt next.now start.0))) buffer.old) }
+    ensures { (result ≡ 5 + 2 * length (folds_at next.now start.0))
+        × (buffer.new ≡ filled (encode_field 0x08 (encode_numbers (o.0 ∷ folds_at next.now start.0))) buffer.old) }
 {
     let count = fold_count(next, start);
     put_heading(buffer, 0x08, 2 + 2 * count, o.0);

@@ -6,10 +6,10 @@ use Prim.Native.Nat.{ℕ, zero, suc, ◌+◌, ◌*◌, ◌/◌, ◌%◌, ◌≤�
 use native.Mathlib.Omega.{arith}
 use lib.ListN.{length, get_or, take, set}
 use lib.Seq.{length-take-le}
-use Rattle.papers.specs.Encoding.{encodeNumbers, encodeField}
-use Rattle.papers.proofs.NumberLaws.{length-encoded}
+use Rattle.papers.specs.Encoding.{encode_numbers, encode_field}
+use Rattle.papers.proofs.NumberLaws.{length_encoded}
 use Rattle.dual.specs.Bytes.{filled}
-use Rattle.dual.proofs.FilledLaws.{filled-again, Numbered, numbered-none, numbered_more}
+use Rattle.dual.proofs.FilledLaws.{filled_again, Numbered, numbered_none, numbered_more}
 
 take_more : (l : List ℕ) (i : ℕ) → i < length l → take (i + 1) l ≡ take i l ++ (get_or l i 0 ∷ [])
 take_more [] zero h = absurd (omega arith)
@@ -18,25 +18,25 @@ take_more (x ∷ l) zero h = refl
 take_more (x ∷ l) (suc i) h = let e : suc i + 1 ≡ suc (i + 1) = omega arith in rw e (ap (λ (more : List ℕ). x ∷ more) (take_more l i (omega arith)))
 
 -- The first so many numbers are written after the heading's three bytes.
-pub fields-none : (numbers start : List ℕ) → 3 ≤ length start → Numbered 3 start start (take 0 numbers)
-fields-none numbers start h = numbered-none 3 start h
+pub fields_none : (numbers start : List ℕ) → 3 ≤ length start → Numbered 3 start start (take 0 numbers)
+fields_none numbers start h = numbered_none 3 start h
 
-pub fields-more : (numbers start buffer : List ℕ) (i : ℕ) → Numbered 3 start buffer (take i numbers) → 3 + 2 * length numbers ≤ length start
+pub fields_more : (numbers start buffer : List ℕ) (i : ℕ) → Numbered 3 start buffer (take i numbers) → 3 + 2 * length numbers ≤ length start
     → i < length numbers → {v : ℕ} → v ≡ get_or numbers i 0
     → Numbered 3 start (set (set buffer (3 + 2 * i) (v / 256)) (3 + 2 * i + 1) (v % 256)) (take (i + 1) numbers)
-fields-more numbers start buffer i w fits h {v} e =
+fields_more numbers start buffer i w fits h {v} e =
     let l = length-take-le i numbers (omega arith) in
     let more = numbered_more 3 start buffer (take i numbers) w (omega arith) (3 + 2 * i) v (omega arith) (omega arith) in
     let last = take_more numbers i h in
     rw (last, ← e) more
 
-pub field-filled : (tag size : ℕ) (numbers entry start buffer : List ℕ) → size ≡ 2 * length numbers → 2 < length entry
+pub field_filled : (tag size : ℕ) (numbers entry start buffer : List ℕ) → size ≡ 2 * length numbers → 2 < length entry
     → start ≡ filled (tag ∷ size / 256 ∷ size % 256 ∷ []) entry → Numbered 3 start buffer numbers
-    → buffer ≡ filled (encodeField tag (encodeNumbers numbers)) entry
-unfolding encodeField
-field-filled tag size numbers entry start buffer e h s w =
-    let l : length (encodeNumbers numbers) ≡ size = let k = length-encoded numbers in omega arith in
+    → buffer ≡ filled (encode_field tag (encode_numbers numbers)) entry
+unfolding encode_field
+field_filled tag size numbers entry start buffer e h s w =
+    let l : length (encode_numbers numbers) ≡ size = let k = length_encoded numbers in omega arith in
     rw l
     (w.is
-    ∙ ap (λ (b : List ℕ). filled (take 3 b ++ encodeNumbers numbers) b) s
-    ∙ filled-again (tag ∷ size / 256 ∷ size % 256 ∷ []) (encodeNumbers numbers) entry (omega arith))
+    ∙ ap (λ (b : List ℕ). filled (take 3 b ++ encode_numbers numbers) b) s
+    ∙ filled_again (tag ∷ size / 256 ∷ size % 256 ∷ []) (encode_numbers numbers) entry (omega arith))

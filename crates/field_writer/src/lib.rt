@@ -1,6 +1,6 @@
 // Fields written into a lent buffer, from its start.
 ghost use Rattle.std.specs.Prelude.{◌≡◌, [], ◌∷◌, ◌+◌, ◌*◌, ◌/◌, ◌%◌, ◌<◌, ◌≤◌, length, set};
-ghost use Rattle.papers.specs.Encoding.{encodeNumbers, encodeField};
+ghost use Rattle.papers.specs.Encoding.{encode_numbers, encode_field};
 ghost use Rattle.dual.specs.Bytes.{filled, Fills};
 
 use arrays::wide;
@@ -27,7 +27,7 @@ pub fn put_heading(buffer: &mut [u8], tag: u8, size: usize, number: usize)
 // A field of these numbers.
 pub fn write_field(buffer: &mut [u8], tag: u8, numbers: &[u16]) -> usize
     requires { (3 + 2 * length numbers.now ≤ length buffer.old) × (length numbers.now ≤ 17) }
-    ensures { Fills (encodeField tag (encodeNumbers numbers.now)) buffer.old result buffer.new }
+    ensures { Fills (encode_field tag (encode_numbers numbers.now)) buffer.old result buffer.new }
 {
     let count = numbers.len();
     buffer[0] = tag;
@@ -44,7 +44,7 @@ pub fn write_field(buffer: &mut [u8], tag: u8, numbers: &[u16]) -> usize
 // 7F.
 pub fn write_end(buffer: &mut [u8])
     requires { 2 < length buffer.old }
-    ensures { buffer.new ≡ filled (encodeField 0x7F []) buffer.old }
+    ensures { buffer.new ≡ filled (encode_field 0x7F []) buffer.old }
 {
     buffer[0] = 0x7F;
     buffer[1] = 0;

@@ -1,7 +1,7 @@
 // One field: one-byte tag, two-byte length, content.
 ghost use Rattle.std.specs.Prelude.{◌≡◌, ◌≤◌, length, get_or, drop};
-ghost use Rattle.papers.specs.Field.{fewest, most, lengthAllowed, fieldFault, readField};
-ghost use Rattle.papers.specs.Answers.{fieldAnswer};
+ghost use Rattle.papers.specs.Field.{fewest, most, length_allowed, field_fault, read_field};
+ghost use Rattle.papers.specs.Answers.{field_answer};
 
 use numbered::number_at;
 use papers::{FieldRead, Paper, Refusal};
@@ -43,7 +43,7 @@ fn most_numbers(tag: u8) -> usize
 }
 
 pub fn length_allowed(tag: u8, len: usize) -> bool
-    ensures { result ≡ lengthAllowed tag len }
+    ensures { result ≡ length_allowed tag len }
 {
     if tag == 0x01 {
         return len == 1;
@@ -60,7 +60,7 @@ pub fn length_allowed(tag: u8, len: usize) -> bool
 // The number of the first check that the field at a place fails, and 0 where it passes all.
 fn field_fault(bytes: &[u8], tag: u8, full: bool, place: usize) -> u8
     requires { place ≤ length bytes.now }
-    ensures { result ≡ fieldFault tag full (drop place bytes.now) }
+    ensures { result ≡ field_fault tag full (drop place bytes.now) }
 {
     let left = bytes.len() - place;
     if left < 3 {
@@ -84,7 +84,7 @@ fn field_fault(bytes: &[u8], tag: u8, full: bool, place: usize) -> u8
 
 pub fn read_field(bytes: &[u8], paper: Paper, tag: u8, full: bool, place: usize) -> FieldRead
     requires { place ≤ length bytes.now }
-    ensures { result ≡ fieldAnswer place (readField paper tag full place bytes.now) }
+    ensures { result ≡ field_answer place (read_field paper tag full place bytes.now) }
 {
     let fault = field_fault(bytes, tag, full, place);
     if fault != 0 {

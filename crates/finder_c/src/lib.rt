@@ -1,25 +1,25 @@
 // The boundary for C and Rust. Each function writes its answer into eight words of the caller's, as
 // include/finder.h says.
 ghost use Rattle.std.specs.Prelude.{◌≡◌, length};
-ghost use Rattle.papers.specs.Reading.{readFile, readPapers};
-ghost use Rattle.papers.specs.Told.{tells, bareNumber};
-ghost use Rattle.dual_writer.specs.WrittenDual.{writtenTold, dualTold, dualAfter};
-ghost use Rattle.text.specs.Importing.{importText};
-ghost use Rattle.importing.specs.Imports.{importedTold, importTold, importAfter};
-ghost use Rattle.judging.specs.Judging.{judgedTold};
+ghost use Rattle.papers.specs.Reading.{read_file, read_papers};
+ghost use Rattle.papers.specs.Told.{tells, bare_number};
+ghost use Rattle.dual_writer.specs.WrittenDual.{written_told, dual_told, dual_after};
+ghost use Rattle.text.specs.Importing.{import_text};
+ghost use Rattle.importing.specs.Imports.{imported_told, import_told, import_after};
+ghost use Rattle.judging.specs.Judging.{judged_told};
 ghost use Rattle.held.specs.Masks.{masks};
-ghost use Rattle.fresh.specs.Beginning.{begunTold, freshTold};
-ghost use Rattle.search.specs.Searching.{continuedTold};
-ghost use Rattle.finder_c.specs.AnswerWords.{flagNumber, paperNumber, stateNumber, recordOf, two, acceptedWords, bareWords, refusalWords};
+ghost use Rattle.fresh.specs.Beginning.{begun_told, fresh_told};
+ghost use Rattle.search.specs.Searching.{continued_told};
+ghost use Rattle.finder_c.specs.AnswerWords.{flag_number, paper_number, state_number, record_of, two, accepted_words, bare_words, refusal_words};
 ghost use Rattle.finder_c.specs.AnswerWords.{
-  dualWords,
-  textWords,
-  importWords,
-  judgedWords,
-  freshWords,
-  reportWords,
-  continuedWords,
-  restLeft,
+  dual_words,
+  text_words,
+  import_words,
+  judged_words,
+  fresh_words,
+  report_words,
+  continued_words,
+  rest_left,
   JudgeLeaves,
   ContinueLeaves,
 };
@@ -36,7 +36,7 @@ use text::TextRefusal;
 use trying::Report;
 
 fn paper_number(paper: Paper) -> u64
-    ensures { result ≡ paperNumber paper }
+    ensures { result ≡ paper_number paper }
 {
     match paper {
         Paper::File => 0,
@@ -45,14 +45,14 @@ fn paper_number(paper: Paper) -> u64
 }
 
 fn bare_words(bare: Bare, third: u64, fourth: u64) -> [u64; 8]
-    ensures { result ≡ bareWords (bareNumber bare) (two third fourth) }
+    ensures { result ≡ bare_words (bare_number bare) (two third fourth) }
 {
     let number = papers::bare_number(bare) as u64;
     [number, 0, 0, third, fourth, 0, 0, 0]
 }
 
 fn refusal_words(refusal: Refusal, third: u64, fourth: u64) -> [u64; 8]
-    ensures { result ≡ refusalWords refusal.number refusal.paper refusal.place (two third fourth) }
+    ensures { result ≡ refusal_words refusal.number refusal.paper refusal.place (two third fourth) }
 {
     let number = refusal.number as u64;
     let paper = refusal.paper;
@@ -62,7 +62,7 @@ fn refusal_words(refusal: Refusal, third: u64, fourth: u64) -> [u64; 8]
 
 #[unsafe(no_mangle)]
 pub extern "C" fn finder_rest<'a>(file: &'a [u8], sheet: &'a [u8], out: &mut [u64; 8])
-    ensures { out.new ≡ restLeft file.now sheet.now }
+    ensures { out.new ≡ rest_left file.now sheet.now }
 {
     let read = reading::read_papers(file, sheet);
     let PapersRead::Refused(refusal) = read else {
@@ -74,7 +74,7 @@ pub extern "C" fn finder_rest<'a>(file: &'a [u8], sheet: &'a [u8], out: &mut [u6
 }
 
 fn dual_words(written: DualWritten) -> [u64; 8]
-    ensures { result ≡ dualWords (writtenTold written) }
+    ensures { result ≡ dual_words (written_told written) }
 {
     match written {
         DualWritten::Length(n) => [0, 0, 0, n as u64, 0, 0, 0, 0],
@@ -85,15 +85,15 @@ fn dual_words(written: DualWritten) -> [u64; 8]
 
 #[unsafe(no_mangle)]
 pub extern "C" fn finder_write_dual(file: &[u8], dual: &mut [u8], out: &mut [u64; 8])
-    ensures { (out.new ≡ dualWords (dualTold (readFile file.now) (length dual.old)))
-        × (dual.new ≡ dualAfter (readFile file.now) dual.old) }
+    ensures { (out.new ≡ dual_words (dual_told (read_file file.now) (length dual.old)))
+        × (dual.new ≡ dual_after (read_file file.now) dual.old) }
 {
     let written = dual_writer::write_dual(file, dual);
     *out = dual_words(written);
 }
 
 fn text_words(refusal: TextRefusal) -> [u64; 8]
-    ensures { result ≡ textWords refusal.number refusal.place }
+    ensures { result ≡ text_words refusal.number refusal.place }
 {
     let number = refusal.number as u64;
     let place = refusal.place as u64;
@@ -101,7 +101,7 @@ fn text_words(refusal: TextRefusal) -> [u64; 8]
 }
 
 fn import_words(imported: Imported) -> [u64; 8]
-    ensures { result ≡ importWords (importedTold imported) }
+    ensures { result ≡ import_words (imported_told imported) }
 {
     match imported {
         Imported::Length(n) => [0, 0, 0, n as u64, 0, 0, 0, 0],
@@ -112,21 +112,21 @@ fn import_words(imported: Imported) -> [u64; 8]
 
 #[unsafe(no_mangle)]
 pub extern "C" fn finder_import(text: &[u8], file: &mut [u8], out: &mut [u64; 8])
-    ensures { (out.new ≡ importWords (importTold (importText text.now) (length file.old)))
-        × (file.new ≡ importAfter (importText text.now) file.old) }
+    ensures { (out.new ≡ import_words (import_told (import_text text.now) (length file.old)))
+        × (file.new ≡ import_after (import_text text.now) file.old) }
 {
     let imported = importing::import_text(text, file);
     *out = import_words(imported);
 }
 
 fn flag_number(flag: bool) -> u64
-    ensures { result ≡ flagNumber flag }
+    ensures { result ≡ flag_number flag }
 {
     if flag { 1 } else { 0 }
 }
 
 fn judged_words(judged: Judged) -> [u64; 8]
-    ensures { result ≡ judgedWords (judgedTold judged) }
+    ensures { result ≡ judged_words (judged_told judged) }
 {
     match judged {
         Judged::Verdict { explains, rounds } => [0, 0, 0, flag_number(explains), rounds, 0, 0, 0],
@@ -146,7 +146,7 @@ pub extern "C" fn finder_judge(
     model: &mut [u8],
     out: &mut [u64; 8],
 )
-    ensures { JudgeLeaves (readPapers file.now sheet.now) scenario dual.old model.old
+    ensures { JudgeLeaves (read_papers file.now sheet.now) scenario dual.old model.old
         dual.new model.new out.new }
 {
     let judged = judging::judge(file, sheet, scenario, dual, model);
@@ -154,7 +154,7 @@ pub extern "C" fn finder_judge(
 }
 
 fn record_words(begun: SearchRecord) -> [u64; 8]
-    ensures { result ≡ freshWords (tells begun) }
+    ensures { result ≡ fresh_words (tells begun) }
 {
     let at = begun.at;
     let held = begun.held;
@@ -171,7 +171,7 @@ fn record_words(begun: SearchRecord) -> [u64; 8]
 }
 
 fn fresh_words(answer: FreshAnswer) -> [u64; 8]
-    ensures { result ≡ freshWords (begunTold answer) }
+    ensures { result ≡ fresh_words (begun_told answer) }
 {
     match answer {
         FreshAnswer::Begun(begun) => record_words(begun),
@@ -183,14 +183,14 @@ fn fresh_words(answer: FreshAnswer) -> [u64; 8]
 
 #[unsafe(no_mangle)]
 pub extern "C" fn finder_fresh(file: &[u8], assumed: u16, ruled: u16, out: &mut [u64; 8])
-    ensures { out.new ≡ freshWords (freshTold (readFile file.now) (masks assumed ruled)) }
+    ensures { out.new ≡ fresh_words (fresh_told (read_file file.now) (masks assumed ruled)) }
 {
     let answer = fresh::fresh(file, assumed, ruled);
     *out = fresh_words(answer);
 }
 
 fn state_number(state: State) -> u64
-    ensures { result ≡ stateNumber state }
+    ensures { result ≡ state_number state }
 {
     match state {
         State::Going => 0,
@@ -200,7 +200,7 @@ fn state_number(state: State) -> u64
 }
 
 fn report_words(report: Report) -> [u64; 8]
-    ensures { result ≡ acceptedWords (reportWords report) }
+    ensures { result ≡ accepted_words (report_words report) }
 {
     let new = report.new.at;
     let state = report.state;
@@ -217,7 +217,7 @@ fn report_words(report: Report) -> [u64; 8]
 }
 
 fn continued_words(from: SearchRecord, continued: Continued) -> [u64; 8]
-    ensures { result ≡ continuedWords from (continuedTold continued) }
+    ensures { result ≡ continued_words from (continued_told continued) }
 {
     let position = from.at.position as u64;
     let found = from.at.found as u64;
@@ -242,8 +242,8 @@ pub extern "C" fn finder_continue(
     allowance: u32,
     out: &mut [u64; 8],
 )
-    ensures { ContinueLeaves (readPapers file.now sheet.now) allowance dual.old
-        (recordOf position found assumed ruled) list.old dual.new list.new out.new }
+    ensures { ContinueLeaves (read_papers file.now sheet.now) allowance dual.old
+        (record_of position found assumed ruled) list.old dual.new list.new out.new }
 {
     let at = Record { position, found };
     let held = Masks { assumed, ruled };

@@ -2,10 +2,10 @@
 // parts of the file.
 ghost use Rattle.std.specs.Prelude.{◌≡◌, ◌+◌, ◌<◌, length, drop};
 ghost use Rattle.papers.specs.declared.FileRead.{FileRead};
-ghost use Rattle.papers.specs.Program.{allRules, ruleAt};
+ghost use Rattle.papers.specs.Program.{all_rules, rule_at};
 ghost use Rattle.papers.specs.Field.{size_of};
-ghost use Rattle.papers.specs.Reading.{readFile, programIn};
-ghost use Rattle.papers.specs.Answers.{fileAnswer};
+ghost use Rattle.papers.specs.Reading.{read_file, program_in};
+ghost use Rattle.papers.specs.Answers.{file_answer};
 ghost use Rattle.papers.specs.Places.{Walked, BodyOf};
 
 use literals::{Fold, Objective};
@@ -22,7 +22,7 @@ fn field_end(file: &[u8], place: usize) -> usize
 
 // Where the field of each fold stands, and 0 past the last: there are at most 1,280.
 pub fn fold_places(file: &[u8], contents: Contents) -> [usize; 1280]
-    requires { fileAnswer (readFile file.now) ≡ FileRead.Accepted contents }
+    requires { file_answer (read_file file.now) ≡ FileRead.Accepted contents }
     ensures { Walked file.now contents result }
 {
     let rules = contents.rules;
@@ -41,8 +41,8 @@ pub fn fold_places(file: &[u8], contents: Contents) -> [usize; 1280]
 
 // The head of the rule with this fold number; falsum's where it is an integrity rule.
 pub fn head_of(file: &[u8], contents: Contents, places: &[usize; 1280], fold: Fold) -> Objective
-    requires { Walked file.now contents places.now × (fold.0 < length (allRules (programIn file.now))) }
-    ensures { (result.0 ≡ (ruleAt (programIn file.now) fold.0).head) × (result.0 < 513) }
+    requires { Walked file.now contents places.now × (fold.0 < length (all_rules (program_in file.now))) }
+    ensures { (result.0 ≡ (rule_at (program_in file.now) fold.0).head) × (result.0 < 513) }
 {
     let rules = contents.rules;
     let at = fold.0;
@@ -60,8 +60,8 @@ pub fn body_of<'a, 'b>(
     places: &'b [usize; 1280],
     fold: Fold,
 ) -> &'a [u8]
-    requires { Walked file.now contents places.now × (fold.0 < length (allRules (programIn file.now))) }
-    ensures { BodyOf (ruleAt (programIn file.now) fold.0) result.now }
+    requires { Walked file.now contents places.now × (fold.0 < length (all_rules (program_in file.now))) }
+    ensures { BodyOf (rule_at (program_in file.now) fold.0) result.now }
 {
     let rules = contents.rules;
     let at = fold.0;

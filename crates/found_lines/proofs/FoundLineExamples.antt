@@ -3,12 +3,12 @@ use mathlib.Core.Path.{◌≡◌, refl}
 use mathlib.Core.List.{[], ◌∷◌}
 use Rattle.decimals.specs.Decimal.{digits, decimal}
 use Rattle.decimals.specs.Text.{ascii, spaced, line}
-use Rattle.found_lines.specs.FoundLine.{sign, assumption, assumptions, foundLine}
+use Rattle.found_lines.specs.FoundLine.{sign, assumption, assumptions, found_line}
 
-pub found : foundLine 1 (1 ∷ []) ≡ ascii "found 1 1+\n"
-unfolding foundLine assumptions assumption sign line spaced decimal digits
+pub found : found_line 1 (1 ∷ []) ≡ ascii "found 1 1+\n"
+unfolding found_line assumptions assumption sign line spaced decimal digits
 found = refl
 
-pub found-three : foundLine 25 (0 ∷ 7 ∷ 120 ∷ []) ≡ ascii "found 25 0+ 7- 120-\n"
-unfolding foundLine assumptions assumption sign line spaced decimal digits
-found-three = refl
+pub found_three : found_line 25 (0 ∷ 7 ∷ 120 ∷ []) ≡ ascii "found 25 0+ 7- 120-\n"
+unfolding found_line assumptions assumption sign line spaced decimal digits
+found_three = refl

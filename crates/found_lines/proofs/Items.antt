@@ -9,37 +9,37 @@ use Rattle.papers.proofs.NumbersWalked.{read_number, no_number}
 use Rattle.decimals.specs.Decimal.{decimal}
 use Rattle.decimals.specs.Text.{spaced}
 use Rattle.found_lines.specs.FoundLine.{sign, assumption, assumptions}
-use Rattle.decimals.proofs.Putting.{spaced-append}
+use Rattle.decimals.proofs.Putting.{spaced_append}
 
 -- ---- one abducible
 
-pub sign-assumed : (digit : ℕ) → digit ≡ 1 → sign digit ≡ 43
+pub sign_assumed : (digit : ℕ) → digit ≡ 1 → sign digit ≡ 43
 unfolding sign
-sign-assumed digit e = rw (eq-eqb digit 1 e)
+sign_assumed digit e = rw (eq-eqb digit 1 e)
 
-pub sign-other : (digit : ℕ) → (digit ≡ 1 → ⊥) → sign digit ≡ 45
+pub sign_other : (digit : ℕ) → (digit ≡ 1 → ⊥) → sign digit ≡ 45
 unfolding sign
-sign-other digit e = rw (ne_eqb digit 1 e)
+sign_other digit e = rw (ne_eqb digit 1 e)
 
-pub item-open : (atom digit : ℕ) → digit ≡ 0 → spaced (assumption atom digit) ≡ []
+pub item_open : (atom digit : ℕ) → digit ≡ 0 → spaced (assumption atom digit) ≡ []
 unfolding assumption spaced
-item-open atom digit e = rw (eq-eqb digit 0 e)
+item_open atom digit e = rw (eq-eqb digit 0 e)
 
-pub item-signed : (atom digit : ℕ) → (digit ≡ 0 → ⊥) → spaced (assumption atom digit) ≡ (32 ∷ decimal atom) ++ (sign digit ∷ [])
+pub item_signed : (atom digit : ℕ) → (digit ≡ 0 → ⊥) → spaced (assumption atom digit) ≡ (32 ∷ decimal atom) ++ (sign digit ∷ [])
 unfolding assumption spaced
-item-signed atom digit e = rw (ne_eqb digit 0 e) (ap (λ (l : List ℕ). 32 ∷ l) (append-nil (decimal atom ++ (sign digit ∷ []))))
+item_signed atom digit e = rw (ne_eqb digit 0 e) (ap (λ (l : List ℕ). 32 ∷ l) (append-nil (decimal atom ++ (sign digit ∷ []))))
 
 -- ---- all of them
 
 module _ (content : List ℕ) (i rest : ℕ) where
-  pub items-none : length content / 2 ≤ i → spaced (assumptions (numbers (drop (2 * i) content)) rest) ≡ []
+  pub items_none : length content / 2 ≤ i → spaced (assumptions (numbers (drop (2 * i) content)) rest) ≡ []
   unfolding assumptions spaced
-  items-none h = rw (no_number content i h)
+  items_none h = rw (no_number content i h)
 
-  pub items-next : (atom : ℕ) → i < length content / 2 → atom ≡ number (get_or content (2 * i) 0) (get_or content (2 * i + 1) 0)
+  pub items_next : (atom : ℕ) → i < length content / 2 → atom ≡ number (get_or content (2 * i) 0) (get_or content (2 * i + 1) 0)
       → spaced (assumptions (numbers (drop (2 * i) content)) rest)
       ≡ spaced (assumption atom (rest % 3)) ++ spaced (assumptions (numbers (drop (2 * (i + 1)) content)) (rest / 3))
   unfolding assumptions
-  items-next atom h e =
+  items_next atom h e =
       let n : numbers (drop (2 * i) content) ≡ atom ∷ numbers (drop (2 * (i + 1)) content) = read_number content i h e in
-      rw n (spaced-append (assumption atom (rest % 3)) (assumptions (numbers (drop (2 * (i + 1)) content)) (rest / 3)))
+      rw n (spaced_append (assumption atom (rest % 3)) (assumptions (numbers (drop (2 * (i + 1)) content)) (rest / 3)))

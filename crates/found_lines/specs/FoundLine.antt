@@ -3,8 +3,8 @@ use Rattle.std.specs.Prelude.{cond, List, [], ◌∷◌, ◌++◌, ℕ, ◌/◌,
 use Rattle.decimals.specs.Decimal.{decimal}
 use Rattle.decimals.specs.Text.{ascii, line}
 
-abbrev pub foundWord : List ℕ
-foundWord = ascii "found"
+abbrev pub found_word : List ℕ
+found_word = ascii "found"
 
 -- `+` for an assumed abducible, digit 1, and `-` for a ruled-out one.
 unfoldable pub sign : ℕ → ℕ
@@ -20,5 +20,5 @@ assumptions [] scenario = []
 assumptions (atom ∷ more) scenario = assumption atom (scenario % 3) ++ assumptions more (scenario / 3)
 
 -- `found 1 1+`: "the word found, its scenario, then each assumed or ruled-out atom".
-unfoldable pub foundLine : ℕ → List ℕ → List ℕ
-foundLine scenario abducibles = line foundWord (decimal scenario ∷ assumptions abducibles scenario)
+unfoldable pub found_line : ℕ → List ℕ → List ℕ
+found_line scenario abducibles = line found_word (decimal scenario ∷ assumptions abducibles scenario)

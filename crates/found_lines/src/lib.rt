@@ -3,7 +3,7 @@
 ghost use Rattle.std.specs.Prelude.{◌≡◌, ◌+◌, ◌<◌, ◌≤◌, ◌^◌, length};
 ghost use Rattle.papers.specs.Field.{numbers};
 ghost use Rattle.decimals.specs.Text.{Put, spaced};
-ghost use Rattle.found_lines.specs.FoundLine.{assumption, assumptions, foundLine};
+ghost use Rattle.found_lines.specs.FoundLine.{assumption, assumptions, found_line};
 ghost use Rattle.found_lines.specs.FoundLine.{sign as sign_of};
 
 use decimals::{put_byte, put_number};
@@ -52,7 +52,7 @@ fn put_assumptions(buffer: &mut [u8], at: usize, scenario: u32, abducibles: &[u8
 // `found 1 1+`: the scenario, and the abducibles' numbers as they stand in a file.
 pub fn write_found(buffer: &mut [u8], at: usize, scenario: u32, abducibles: &[u8]) -> usize
     requires { (at < 2 ^ 32) × (length abducibles.now ≤ 32) }
-    ensures { Put at (foundLine scenario (numbers abducibles.now)) buffer.old result buffer.new × (result ≤ at + 512) }
+    ensures { Put at (found_line scenario (numbers abducibles.now)) buffer.old result buffer.new × (result ≤ at + 512) }
 {
     let first = put_number(buffer, at, b"found ", scenario as u64);
     let second = put_assumptions(buffer, first, scenario, abducibles);

@@ -1,8 +1,8 @@
 // A search that begins.
 ghost use Rattle.std.specs.Prelude.{◌≡◌};
-ghost use Rattle.papers.specs.Reading.{readFile};
+ghost use Rattle.papers.specs.Reading.{read_file};
 ghost use Rattle.held.specs.Masks.{masks};
-ghost use Rattle.fresh.specs.Beginning.{begunTold, masksTold, freshTold};
+ghost use Rattle.fresh.specs.Beginning.{begun_told, masks_told, fresh_told};
 
 use held::{Masks, MasksTested, SearchRecord, test_masks};
 use papers::{FileRead, Refusal};
@@ -19,7 +19,7 @@ pub enum FreshAnswer {
 
 // The answer by the tests of the masks.
 fn begun(tested: MasksTested, held: Masks) -> FreshAnswer
-    ensures { begunTold result ≡ masksTold tested held }
+    ensures { begun_told result ≡ masks_told tested held }
 {
     match tested {
         MasksTested::SharedBit => FreshAnswer::SharedBit,
@@ -36,7 +36,7 @@ fn begun(tested: MasksTested, held: Masks) -> FreshAnswer
 
 // The record of a search that begins, with faults held as assumed and as ruled out.
 pub fn fresh(file: &[u8], assumed: u16, ruled: u16) -> FreshAnswer
-    ensures { begunTold result ≡ freshTold (readFile file.now) (masks assumed ruled) }
+    ensures { begun_told result ≡ fresh_told (read_file file.now) (masks assumed ruled) }
 {
     let read = reading::read_file(file);
     let FileRead::Accepted(contents) = read else {

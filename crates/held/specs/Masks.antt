@@ -1,11 +1,11 @@
 -- "Two 16-bit masks, faults held as assumed (digit 1) and held as ruled out (digit 2), bit i for the i-th abducible."
 use Rattle.std.specs.Prelude.{Bool, true, not, cond, ℕ, zero, suc, ◌/◌, ◌%◌, ◌^◌, eqb, leb}
 use Rattle.papers.specs.Tests.{◌and◌, ◌or◌}
-use Rattle.lanes.specs.Lanes.{inLane}
-use Rattle.steps.specs.Explanations.{someBelow}
+use Rattle.lanes.specs.Lanes.{lane_bit}
+use Rattle.steps.specs.Explanations.{some_below}
 use Rattle.held.specs.declared.MasksTested.{MasksTested}
 use Rattle.held.specs.declared.MasksTested.TheVariants.{Passed, SharedBit, UnlistedBit}
--- Both masks, as the code declares them. Bit i of one is `inLane i`.
+-- Both masks, as the code declares them. Bit i of one is `lane_bit i`.
 pub use Rattle.held.specs.declared.Masks.{Masks}
 
 abbrev pub masks : ℕ → ℕ → Masks
@@ -14,22 +14,22 @@ masks assumed ruled = record { assumed = assumed; ruled = ruled }
 -- ---- 15 and 16
 
 unfoldable pub shared_at : Masks → ℕ → Bool
-shared_at m i = inLane i m.assumed and inLane i m.ruled
+shared_at m i = lane_bit i m.assumed and lane_bit i m.ruled
 
 -- "The masks share a bit."
 unfoldable pub share : Masks → Bool
-share m = someBelow 16 (shared_at m)
+share m = some_below 16 (shared_at m)
 
-unfoldable pub unlistedAt : ℕ → Masks → ℕ → Bool
-unlistedAt k m i = leb k i and (inLane i m.assumed or inLane i m.ruled)
+unfoldable pub unlisted_at : ℕ → Masks → ℕ → Bool
+unlisted_at k m i = leb k i and (lane_bit i m.assumed or lane_bit i m.ruled)
 
 -- "A bit at or above k is set."
 unfoldable pub unlisted : ℕ → Masks → Bool
-unlisted k m = someBelow 16 (unlistedAt k m)
+unlisted k m = some_below 16 (unlisted_at k m)
 
 -- "15 when the masks share a bit, then 16 when a bit at or above k is set."
-unfoldable pub masksTested : ℕ → Masks → MasksTested
-masksTested k m = cond (share m) SharedBit (cond (unlisted k m) UnlistedBit Passed)
+unfoldable pub masks_tested : ℕ → Masks → MasksTested
+masks_tested k m = cond (share m) SharedBit (cond (unlisted k m) UnlistedBit Passed)
 
 -- ---- agreeing
 
@@ -38,10 +38,10 @@ unfoldable pub keeps : Bool → ℕ → ℕ → Bool
 keeps held digit own = not held or eqb own digit
 
 -- Scenario s agrees at the i-th abducible, whose digit it has as `s / 3 ^ i % 3`.
-unfoldable pub agreesAt : Masks → ℕ → ℕ → Bool
-agreesAt m s i = keeps (inLane i m.assumed) 1 (s / 3 ^ i % 3) and keeps (inLane i m.ruled) 2 (s / 3 ^ i % 3)
+unfoldable pub agrees_at : Masks → ℕ → ℕ → Bool
+agrees_at m s i = keeps (lane_bit i m.assumed) 1 (s / 3 ^ i % 3) and keeps (lane_bit i m.ruled) 2 (s / 3 ^ i % 3)
 
 -- And so at each of the first k.
 unfoldable pub agrees : ℕ → Masks → ℕ → Bool
 agrees zero m s = true
-agrees (suc k) m s = agrees k m s and agreesAt m s k
+agrees (suc k) m s = agrees k m s and agrees_at m s k

@@ -1,7 +1,7 @@
 // Held faults: the two masks of a search, tests 15 and 16 of them, and test 14 of a record that carries them.
 ghost use Rattle.std.specs.Prelude.{◌≡◌, ◌≤◌};
-ghost use Rattle.held.specs.Masks.{masksTested};
-ghost use Rattle.held.specs.HeldCalls.{unfit, spoiltSearchBy};
+ghost use Rattle.held.specs.Masks.{masks_tested};
+ghost use Rattle.held.specs.HeldCalls.{unfit, spoilt_search_by};
 
 use spoilt::is_spoilt;
 use steps::Record;
@@ -31,7 +31,7 @@ pub enum MasksTested {
 // Tests 15 and 16, where there are k abducibles. A 16-bit number cannot be shifted by 16.
 pub fn test_masks(k: usize, held: Masks) -> MasksTested
     requires { k ≤ 16 }
-    ensures { result ≡ masksTested k held }
+    ensures { result ≡ masks_tested k held }
 {
     if held.assumed & held.ruled != 0 {
         return MasksTested::SharedBit;
@@ -59,7 +59,7 @@ fn is_unfit(tested: MasksTested) -> bool
 // Test 14 on a record and a list, where there are `total` scenarios of k abducibles.
 pub fn is_spoilt_search(list: &[u32], from: SearchRecord, k: usize, total: u32) -> bool
     requires { k ≤ 16 }
-    ensures { result ≡ spoiltSearchBy k total from list.now }
+    ensures { result ≡ spoilt_search_by k total from list.now }
 {
     let at = from.at;
     if is_spoilt(list, at.position, at.found, total) {

@@ -9,42 +9,42 @@ use native.Mathlib.Omega.{arith}
 use borrow.Author.Tests.{eq-eqb, ne_eqb, eqb-true, lt-leb}
 use lib.Dec.{eqb}
 use lib.ListN.{length, get_or, set, length-set, replicate}
-use Rattle.papers.specs.Content.{isAmong}
+use Rattle.papers.specs.Content.{is_among}
 use Rattle.papers.specs.Valid.{All, each}
 use Rattle.papers.proofs.Checks.{both}
 use Rattle.text.specs.declared.line.Brief.{Brief}
 use Rattle.text.specs.declared.line.LineRead.{LineRead}
 use Rattle.text.specs.declared.line.LineRead.TheVariants as read
-use Rattle.text.specs.Lines.{accepted, refused, textRefusal, Line, abducible, rule, integrity, fresh, lines_of}
-use Rattle.text.specs.Typed.{Placed, placed, its, declaredIn, programTyped}
-use Rattle.text.specs.Importing.{overfullAt, importText}
-use Rattle.text.specs.Briefly.{tag_of, start_of, atomOf, brief}
+use Rattle.text.specs.Lines.{accepted, refused, text_refusal, Line, abducible, rule, integrity, fresh, lines_of}
+use Rattle.text.specs.Typed.{Placed, placed, its, declared_in, program_typed}
+use Rattle.text.specs.Importing.{overfull_at, import_text}
+use Rattle.text.specs.Briefly.{tag_of, start_of, atom_of, brief}
 use Rattle.text.specs.LineAnswers.{LineTells}
-use Rattle.text.proofs.Printed.{Printable, abducible-fits}
-use Rattle.text.proofs.Fitting.{all_split, text-fits}
-use Rattle.text.proofs.Passes.{newAmong, import-checks, abducibles-counted}
-use Rattle.importing.specs.Passes.{linesIn, Typed, typed, declaredNames, newIn, Flagged}
-use Rattle.importing.proofs.LinesWalked.{its-append, LinesRead, lines_start, met, lines-on, lines_split, all_done}
+use Rattle.text.proofs.Printed.{Printable, abducible_fits}
+use Rattle.text.proofs.Fitting.{all_split, text_fits}
+use Rattle.text.proofs.Passes.{new_among, import_checks, abducibles_counted}
+use Rattle.importing.specs.Passes.{lines_in, Typed, typed, declared_names, new_in, Flagged}
+use Rattle.importing.proofs.LinesWalked.{its_append, LinesRead, lines_start, met, lines_on, lines_split, all_done}
 
 -- ---- one line
 
-pub declared-append : (xs ys : List Line) → declaredIn (xs ++ ys) ≡ declaredIn xs ++ declaredIn ys
-unfolding declaredIn
-declared-append [] ys = refl
-declared-append (abducible start a ∷ xs) ys = ap (λ (l : List (Placed ℕ)). placed start a ∷ l) (declared-append xs ys)
-declared-append (rule start head body ∷ xs) ys = declared-append xs ys
-declared-append (integrity start body ∷ xs) ys = declared-append xs ys
+pub declared_append : (xs ys : List Line) → declared_in (xs ++ ys) ≡ declared_in xs ++ declared_in ys
+unfolding declared_in
+declared_append [] ys = refl
+declared_append (abducible start a ∷ xs) ys = ap (λ (l : List (Placed ℕ)). placed start a ∷ l) (declared_append xs ys)
+declared_append (rule start head body ∷ xs) ys = declared_append xs ys
+declared_append (integrity start body ∷ xs) ys = declared_append xs ys
 
 -- What a line declares: its atom, or nothing.
-declares : (line : Line) → declaredIn (line ∷ []) ≡ cond (eqb (tag_of line) 0x03) (placed (start_of line) (atomOf line) ∷ []) []
-unfolding declaredIn tag_of start_of atomOf
+declares : (line : Line) → declared_in (line ∷ []) ≡ cond (eqb (tag_of line) 0x03) (placed (start_of line) (atom_of line) ∷ []) []
+unfolding declared_in tag_of start_of atom_of
 declares (abducible start a) = refl
 declares (rule start head body) = refl
 declares (integrity start body) = refl
 
-pub atom-is : (line : Line) → (brief line).atom ≡ atomOf line
+pub atom_is : (line : Line) → (brief line).atom ≡ atom_of line
 unfolding brief
-atom-is line = refl
+atom_is line = refl
 
 pub start_is : (line : Line) → (brief line).start ≡ start_of line
 unfolding brief
@@ -54,47 +54,47 @@ pub tag_is : (line : Line) → (brief line).tag ≡ tag_of line
 unfolding brief
 tag_is line = refl
 
-declared-small : (line : Line) → tag_of line ≡ 0x03 → Printable line → atomOf line < 256
-unfolding tag_of atomOf
-declared-small (abducible start a) e (abducible-fits h) = omega arith
-declared-small (rule start head body) e h = absurd (omega arith)
-declared-small (integrity start body) e h = absurd (omega arith)
+declared_small : (line : Line) → tag_of line ≡ 0x03 → Printable line → atom_of line < 256
+unfolding tag_of atom_of
+declared_small (abducible start a) e (abducible_fits h) = omega arith
+declared_small (rule start head body) e h = absurd (omega arith)
+declared_small (integrity start body) e h = absurd (omega arith)
 
 -- ---- flags
 
-set-flag : (flags : List Bool) (a : ℕ) (v : Bool) → a < length flags → (x : ℕ) → get_or (set flags a v) x false ≡ cond (eqb a x) v (get_or flags x false)
-set-flag [] a v h x = absurd (omega arith)
-set-flag (f ∷ flags) zero v h zero = refl
-set-flag (f ∷ flags) zero v h (suc x) = rw (ne_eqb 0 (suc x) (omega arith))
-set-flag (f ∷ flags) (suc a) v h zero = rw (ne_eqb (suc a) 0 (omega arith))
-set-flag (f ∷ flags) (suc a) v h (suc x) = set-flag flags a v (omega arith) x ∙ ap (λ (t : Bool). cond t v (get_or flags x false)) (sym (eqb-suc a x))
+set_flag : (flags : List Bool) (a : ℕ) (v : Bool) → a < length flags → (x : ℕ) → get_or (set flags a v) x false ≡ cond (eqb a x) v (get_or flags x false)
+set_flag [] a v h x = absurd (omega arith)
+set_flag (f ∷ flags) zero v h zero = refl
+set_flag (f ∷ flags) zero v h (suc x) = rw (ne_eqb 0 (suc x) (omega arith))
+set_flag (f ∷ flags) (suc a) v h zero = rw (ne_eqb (suc a) 0 (omega arith))
+set_flag (f ∷ flags) (suc a) v h (suc x) = set_flag flags a v (omega arith) x ∙ ap (λ (t : Bool). cond t v (get_or flags x false)) (sym (eqb_suc a x))
   where
-    eqb-suc : (m n : ℕ) → eqb (suc m) (suc n) ≡ eqb m n
-    eqb-suc m n = elim (ℕ_discrete m n) [
+    eqb_suc : (m n : ℕ) → eqb (suc m) (suc n) ≡ eqb m n
+    eqb_suc m n = elim (ℕ_discrete m n) [
       | yes e ↦ rw (eq-eqb m n e, eq-eqb (suc m) (suc n) (omega arith))
       | no e ↦ rw (ne_eqb m n e, ne_eqb (suc m) (suc n) (λ q. e (omega arith)))
     ]
 
-flag-more : (flags : List Bool) (a : ℕ) (seen : List ℕ) → a < length flags → Flagged flags seen → Flagged (set flags a true) (a ∷ seen)
-unfolding isAmong
-flag-more flags a seen h f x = set-flag flags a true h x ∙ ap (cond (eqb a x) true) (f x)
+flag_more : (flags : List Bool) (a : ℕ) (seen : List ℕ) → a < length flags → Flagged flags seen → Flagged (set flags a true) (a ∷ seen)
+unfolding is_among
+flag_more flags a seen h f x = set_flag flags a true h x ∙ ap (cond (eqb a x) true) (f x)
 
 -- At first none is set.
-pub no-flags : (x : ℕ) → get_or (replicate 256 false) x false ≡ false
-no-flags x = none-set 256 x
+pub no_flags : (x : ℕ) → get_or (replicate 256 false) x false ≡ false
+no_flags x = none_set 256 x
   where
-    none-set : (n x : ℕ) → get_or (replicate n false) x false ≡ false
-    none-set zero zero = refl
-    none-set zero (suc x) = refl
-    none-set (suc n) zero = refl
-    none-set (suc n) (suc x) = none-set n x
+    none_set : (n x : ℕ) → get_or (replicate n false) x false ≡ false
+    none_set zero zero = refl
+    none_set zero (suc x) = refl
+    none_set (suc n) zero = refl
+    none_set (suc n) (suc x) = none_set n x
 
 -- ---- one more name
 
-among-append : (xs : List ℕ) (a x : ℕ) → isAmong (xs ++ (a ∷ [])) x ≡ cond (eqb a x) true (isAmong xs x)
-unfolding isAmong
-among-append [] a x = refl
-among-append (y ∷ xs) a x = ap (cond (eqb y x) true) (among-append xs a x) ∙ swap (eqb y x) (eqb a x) (isAmong xs x)
+among_append : (xs : List ℕ) (a x : ℕ) → is_among (xs ++ (a ∷ [])) x ≡ cond (eqb a x) true (is_among xs x)
+unfolding is_among
+among_append [] a x = refl
+among_append (y ∷ xs) a x = ap (cond (eqb y x) true) (among_append xs a x) ∙ swap (eqb y x) (eqb a x) (is_among xs x)
   where
     swap : (t u v : Bool) → cond t true (cond u true v) ≡ cond u true (cond t true v)
     swap true true v = refl
@@ -102,12 +102,12 @@ among-append (y ∷ xs) a x = ap (cond (eqb y x) true) (among-append xs a x) ∙
     swap false true v = refl
     swap false false v = refl
 
-among-cons : (a : ℕ) (seen : List ℕ) (x : ℕ) → isAmong (a ∷ seen) x ≡ cond (eqb a x) true (isAmong seen x)
-unfolding isAmong
-among-cons a seen x = refl
+among_cons : (a : ℕ) (seen : List ℕ) (x : ℕ) → is_among (a ∷ seen) x ≡ cond (eqb a x) true (is_among seen x)
+unfolding is_among
+among_cons a seen x = refl
 
-again-among : (seen : List ℕ) (a x : ℕ) → isAmong seen a ≡ true → isAmong seen x ≡ cond (eqb a x) true (isAmong seen x)
-again-among seen a x h = elim (ℕ_discrete a x) [
+again_among : (seen : List ℕ) (a x : ℕ) → is_among seen a ≡ true → is_among seen x ≡ cond (eqb a x) true (is_among seen x)
+again_among seen a x h = elim (ℕ_discrete a x) [
   | yes e ↦ rw (eq-eqb a x e, ← e) h
   | no e ↦ rw (ne_eqb a x e)
 ]
@@ -120,14 +120,14 @@ pub record Declaring (text : List ℕ) (flags : List Bool) (room at : ℕ) : Typ
   pub seen : List ℕ
   pub size : length flags ≡ 256
   pub flagged : Flagged flags seen
-  pub same : (x : ℕ) → isAmong seen x ≡ isAmong (map its (declaredIn done)) x
+  pub same : (x : ℕ) → is_among seen x ≡ is_among (map its (declared_in done)) x
   pub few : room ≤ 16
-  pub counts : (later : List ℕ) → newAmong [] (map its (declaredIn done) ++ later) ≡ 16 - room + newAmong seen later
-  pub places : (later : List (Placed ℕ)) → overfullAt 16 [] (declaredIn done ++ later) ≡ overfullAt room seen later
+  pub counts : (later : List ℕ) → new_among [] (map its (declared_in done) ++ later) ≡ 16 - room + new_among seen later
+  pub places : (later : List (Placed ℕ)) → overfull_at 16 [] (declared_in done ++ later) ≡ overfull_at room seen later
 
-pub declare-start : (text : List ℕ) (flags : List Bool) → length flags ≡ 256 → ((x : ℕ) → get_or flags x false ≡ false) → Declaring text flags 16 0
-unfolding declaredIn isAmong
-declare-start text flags l f = record {
+pub declare_start : (text : List ℕ) (flags : List Bool) → length flags ≡ 256 → ((x : ℕ) → get_or flags x false ≡ false) → Declaring text flags 16 0
+unfolding declared_in is_among
+declare_start text flags l f = record {
   done = [];
   walked = lines_start text;
   seen = [];
@@ -141,52 +141,52 @@ declare-start text flags l f = record {
 
 -- What a line does to the facts: by whether it declares a new atom.
 module _ (seen : List ℕ) (line : Line) where
-  names_more : (done : List Line) (later : List ℕ) → map its (declaredIn (done ++ (line ∷ []))) ++ later
-      ≡ map its (declaredIn done) ++ (map its (declaredIn (line ∷ [])) ++ later)
+  names_more : (done : List Line) (later : List ℕ) → map its (declared_in (done ++ (line ∷ []))) ++ later
+      ≡ map its (declared_in done) ++ (map its (declared_in (line ∷ [])) ++ later)
   names_more done later =
-      ap (λ (l : List (Placed ℕ)). map its l ++ later) (declared-append done (line ∷ []))
-      ∙ ap (λ (l : List ℕ). l ++ later) (its-append (declaredIn done) (declaredIn (line ∷ [])))
-      ∙ append_assoc (map its (declaredIn done)) (map its (declaredIn (line ∷ []))) later
+      ap (λ (l : List (Placed ℕ)). map its l ++ later) (declared_append done (line ∷ []))
+      ∙ ap (λ (l : List ℕ). l ++ later) (its_append (declared_in done) (declared_in (line ∷ [])))
+      ∙ append_assoc (map its (declared_in done)) (map its (declared_in (line ∷ []))) later
 
-  places-more : (done : List Line) (later : List (Placed ℕ)) → declaredIn (done ++ (line ∷ [])) ++ later ≡ declaredIn done ++ (declaredIn (line ∷ []) ++ later)
-  places-more done later =
-      ap (λ (l : List (Placed ℕ)). l ++ later) (declared-append done (line ∷ [])) ∙ append_assoc (declaredIn done) (declaredIn (line ∷ [])) later
+  places_more : (done : List Line) (later : List (Placed ℕ)) → declared_in (done ++ (line ∷ [])) ++ later ≡ declared_in done ++ (declared_in (line ∷ []) ++ later)
+  places_more done later =
+      ap (λ (l : List (Placed ℕ)). l ++ later) (declared_append done (line ∷ [])) ∙ append_assoc (declared_in done) (declared_in (line ∷ [])) later
 
 -- A declaration of an atom that was seen counts for nothing.
-overfull-again : (room : ℕ) (seen : List ℕ) (d : Placed ℕ) (later : List (Placed ℕ)) → isAmong seen d.it ≡ true → overfullAt room seen (d ∷ later)
-    ≡ overfullAt room seen later
-unfolding overfullAt
-overfull-again zero seen d later e = rw e
-overfull-again (suc room) seen d later e = rw e
+overfull_again : (room : ℕ) (seen : List ℕ) (d : Placed ℕ) (later : List (Placed ℕ)) → is_among seen d.it ≡ true → overfull_at room seen (d ∷ later)
+    ≡ overfull_at room seen later
+unfolding overfull_at
+overfull_again zero seen d later e = rw e
+overfull_again (suc room) seen d later e = rw e
 
-overfull-new : (room : ℕ) (seen : List ℕ) (d : Placed ℕ) (later : List (Placed ℕ)) → isAmong seen d.it ≡ false
-    → overfullAt (suc room) seen (d ∷ later) ≡ overfullAt room (d.it ∷ seen) later
-unfolding overfullAt
-overfull-new room seen d later e = rw e
+overfull_new : (room : ℕ) (seen : List ℕ) (d : Placed ℕ) (later : List (Placed ℕ)) → is_among seen d.it ≡ false
+    → overfull_at (suc room) seen (d ∷ later) ≡ overfull_at room (d.it ∷ seen) later
+unfolding overfull_at
+overfull_new room seen d later e = rw e
 
-overfull-here : (seen : List ℕ) (d : Placed ℕ) (later : List (Placed ℕ)) → isAmong seen d.it ≡ false → overfullAt 0 seen (d ∷ later) ≡ d.start
-unfolding overfullAt
-overfull-here seen d later e = rw e
+overfull_here : (seen : List ℕ) (d : Placed ℕ) (later : List (Placed ℕ)) → is_among seen d.it ≡ false → overfull_at 0 seen (d ∷ later) ≡ d.start
+unfolding overfull_at
+overfull_here seen d later e = rw e
 
-none-new : (seen : List ℕ) → newAmong seen [] ≡ 0
-unfolding newAmong
-none-new seen = refl
+none_new : (seen : List ℕ) → new_among seen [] ≡ 0
+unfolding new_among
+none_new seen = refl
 
-new-again : (seen : List ℕ) (a : ℕ) (later : List ℕ) → isAmong seen a ≡ true → newAmong seen (a ∷ later) ≡ newAmong seen later
-unfolding newAmong
-new-again seen a later e = rw e
+new_again : (seen : List ℕ) (a : ℕ) (later : List ℕ) → is_among seen a ≡ true → new_among seen (a ∷ later) ≡ new_among seen later
+unfolding new_among
+new_again seen a later e = rw e
 
-new-here : (seen : List ℕ) (a : ℕ) (later : List ℕ) → isAmong seen a ≡ false → newAmong seen (a ∷ later) ≡ suc (newAmong (a ∷ seen) later)
-unfolding newAmong
-new-here seen a later e = rw e
+new_here : (seen : List ℕ) (a : ℕ) (later : List ℕ) → is_among seen a ≡ false → new_among seen (a ∷ later) ≡ suc (new_among (a ∷ seen) later)
+unfolding new_among
+new_here seen a later e = rw e
 
 -- The facts go on over one line, which declares these.
 grow : {text : List ℕ} {flags : List Bool} {room at : ℕ} (g : Declaring text flags room at) (line : Line) (after : ℕ)
-    → LinesRead text (g.done ++ (line ∷ [])) after → (ds : List (Placed ℕ)) → declaredIn (line ∷ []) ≡ ds
+    → LinesRead text (g.done ++ (line ∷ [])) after → (ds : List (Placed ℕ)) → declared_in (line ∷ []) ≡ ds
     → (more : List Bool) (left : ℕ) (now-seen : List ℕ) → length more ≡ 256 → Flagged more now-seen → left ≤ 16
-    → ((x : ℕ) → isAmong now-seen x ≡ isAmong (map its (declaredIn g.done) ++ map its ds) x)
-    → ((later : List ℕ) → 16 - room + newAmong g.seen (map its ds ++ later) ≡ 16 - left + newAmong now-seen later)
-    → ((later : List (Placed ℕ)) → overfullAt room g.seen (ds ++ later) ≡ overfullAt left now-seen later)
+    → ((x : ℕ) → is_among now-seen x ≡ is_among (map its (declared_in g.done) ++ map its ds) x)
+    → ((later : List ℕ) → 16 - room + new_among g.seen (map its ds ++ later) ≡ 16 - left + new_among now-seen later)
+    → ((later : List (Placed ℕ)) → overfull_at room g.seen (ds ++ later) ≡ overfull_at left now-seen later)
     → Declaring text more left after
 grow g line after w ds d more left now-seen l f few s c p = record {
   done = g.done ++ (line ∷ []);
@@ -197,25 +197,25 @@ grow g line after w ds d more left now-seen l f few s c p = record {
   few = few;
   same = λ x.
       s x
-      ∙ ap (λ (n : List ℕ). isAmong n x)
-      (ap (λ (n : List (Placed ℕ)). map its (declaredIn g.done) ++ map its n) (sym d) ∙ sym (its-append (declaredIn g.done) (declaredIn (line ∷ [])))
-      ∙ ap (map its) (sym (declared-append g.done (line ∷ []))));
+      ∙ ap (λ (n : List ℕ). is_among n x)
+      (ap (λ (n : List (Placed ℕ)). map its (declared_in g.done) ++ map its n) (sym d) ∙ sym (its_append (declared_in g.done) (declared_in (line ∷ [])))
+      ∙ ap (map its) (sym (declared_append g.done (line ∷ []))));
   counts = λ later.
-      ap (newAmong []) (names_more g.seen line g.done later ∙ ap (λ (n : List (Placed ℕ)). map its (declaredIn g.done) ++ (map its n ++ later)) d)
+      ap (new_among []) (names_more g.seen line g.done later ∙ ap (λ (n : List (Placed ℕ)). map its (declared_in g.done) ++ (map its n ++ later)) d)
       ∙ g.counts (map its ds ++ later) ∙ c later;
   places = λ later.
-      ap (overfullAt 16 []) (places-more g.seen line g.done later ∙ ap (λ (n : List (Placed ℕ)). declaredIn g.done ++ (n ++ later)) d)
+      ap (overfull_at 16 []) (places_more g.seen line g.done later ∙ ap (λ (n : List (Placed ℕ)). declared_in g.done ++ (n ++ later)) d)
       ∙ g.places (ds ++ later) ∙ p later;
 }
 
 module _ (text : List ℕ) (was : Typed text) {flags : List Bool} {room at : ℕ} (g : Declaring text flags room at) where
-  pub declare-over : lines_of text ≡ accepted g.done → Flagged flags (declaredNames text) × (length (typed text).abducibles ≤ 16)
-  declare-over e =
+  pub declare_over : lines_of text ≡ accepted g.done → Flagged flags (declared_names text) × (length (typed text).abducibles ≤ 16)
+  declare_over e =
       let all = all_done text was e in
-      let names = ap (λ (l : List Line). map its (declaredIn l)) all in
-      let counted = abducibles-counted (linesIn text) ∙ ap (newAmong []) (names ∙ sym (append-nil (map its (declaredIn g.done)))) ∙ g.counts [] in (
-        λ a. g.flagged a ∙ g.same a ∙ ap (λ (n : List ℕ). isAmong n a) (sym names),
-        (let z = none-new g.seen in omega arith),
+      let names = ap (λ (l : List Line). map its (declared_in l)) all in
+      let counted = abducibles_counted (lines_in text) ∙ ap (new_among []) (names ∙ sym (append-nil (map its (declared_in g.done)))) ∙ g.counts [] in (
+        λ a. g.flagged a ∙ g.same a ∙ ap (λ (n : List ℕ). is_among n a) (sym names),
+        (let z = none_new g.seen in omega arith),
       )
 
   module _ {got : LineRead} (told : LineTells text fresh at got) where
@@ -227,103 +227,103 @@ module _ (text : List ℕ) (was : Typed text) {flags : List Bool} {room at : ℕ
       is = (met g.walked told e).briefly
 
       abbrev walked : LinesRead text (g.done ++ (line ∷ [])) after
-      walked = lines-on g.walked told e
+      walked = lines_on g.walked told e
 
-      atom-here : b.atom ≡ atomOf line
-      atom-here = ap (λ (x : Brief). x.atom) is ∙ atom-is line
+      atom_here : b.atom ≡ atom_of line
+      atom_here = ap (λ (x : Brief). x.atom) is ∙ atom_is line
 
       -- Its atom is below 256, as all of the text's are.
-      small : tag_of line ≡ 0x03 → atomOf line < 256
+      small : tag_of line ≡ 0x03 → atom_of line < 256
       small t =
           let s = lines_split text was walked in
-          let all = rw s.1 at (text-fits text (linesIn text) was) in
-          declared-small line t (head_of (all_split g.done (line ∷ []) (all_split (g.done ++ (line ∷ [])) s.0 all).0).1)
+          let all = rw s.1 at (text_fits text (lines_in text) was) in
+          declared_small line t (head_of (all_split g.done (line ∷ []) (all_split (g.done ++ (line ∷ [])) s.0 all).0).1)
         where
           head_of : All Printable (line ∷ []) → Printable line
           head_of (each h hs) = h
 
-      new_is : newIn b flags ≡ eqb (tag_of line) 0x03 && not (isAmong g.seen (atomOf line))
-      unfolding newIn
+      new_is : new_in b flags ≡ eqb (tag_of line) 0x03 && not (is_among g.seen (atom_of line))
+      unfolding new_in
       new_is =
           ap (λ (x : ℕ). eqb x 0x03 && not (get_or flags b.atom false)) (ap (λ (x : Brief). x.tag) is ∙ tag_is line)
-          ∙ ap (λ (x : ℕ). eqb (tag_of line) 0x03 && not (get_or flags x false)) atom-here
-          ∙ ap (λ (x : Bool). eqb (tag_of line) 0x03 && not x) (g.flagged (atomOf line))
+          ∙ ap (λ (x : ℕ). eqb (tag_of line) 0x03 && not (get_or flags x false)) atom_here
+          ∙ ap (λ (x : Bool). eqb (tag_of line) 0x03 && not x) (g.flagged (atom_of line))
 
       -- A line that declares nothing new.
-      kept : newIn b flags ≡ false → Declaring text flags room after
-      kept n = go (eqb (tag_of line) 0x03) (isAmong g.seen (atomOf line)) refl refl (sym new_is ∙ n)
+      kept : new_in b flags ≡ false → Declaring text flags room after
+      kept n = go (eqb (tag_of line) 0x03) (is_among g.seen (atom_of line)) refl refl (sym new_is ∙ n)
         where
-          go : (t u : Bool) → eqb (tag_of line) 0x03 ≡ t → isAmong g.seen (atomOf line) ≡ u → t && not u ≡ false → Declaring text flags room after
+          go : (t u : Bool) → eqb (tag_of line) 0x03 ≡ t → is_among g.seen (atom_of line) ≡ u → t && not u ≡ false → Declaring text flags room after
           go true true t u q =
-              let d = declares line ∙ ap (λ (x : Bool). cond x (placed (start_of line) (atomOf line) ∷ []) []) t in
-              grow g line after walked (placed (start_of line) (atomOf line) ∷ []) d flags room g.seen g.size g.flagged g.few
-              (λ x. again-among g.seen (atomOf line) x u ∙ ap (cond (eqb (atomOf line) x) true) (g.same x)
-              ∙ sym (among-append (map its (declaredIn g.done)) (atomOf line) x))
-              (λ later. ap (λ (k : ℕ). 16 - room + k) (new-again g.seen (atomOf line) later u))
-              (λ later. overfull-again room g.seen (placed (start_of line) (atomOf line)) later u)
+              let d = declares line ∙ ap (λ (x : Bool). cond x (placed (start_of line) (atom_of line) ∷ []) []) t in
+              grow g line after walked (placed (start_of line) (atom_of line) ∷ []) d flags room g.seen g.size g.flagged g.few
+              (λ x. again_among g.seen (atom_of line) x u ∙ ap (cond (eqb (atom_of line) x) true) (g.same x)
+              ∙ sym (among_append (map its (declared_in g.done)) (atom_of line) x))
+              (λ later. ap (λ (k : ℕ). 16 - room + k) (new_again g.seen (atom_of line) later u))
+              (λ later. overfull_again room g.seen (placed (start_of line) (atom_of line)) later u)
           go true false t u q = absurd (true≢false q)
           go false u t v q =
-              let d = declares line ∙ ap (λ (x : Bool). cond x (placed (start_of line) (atomOf line) ∷ []) []) t in
+              let d = declares line ∙ ap (λ (x : Bool). cond x (placed (start_of line) (atom_of line) ∷ []) []) t in
               grow g line after walked [] d flags room g.seen g.size g.flagged g.few
-              (λ x. g.same x ∙ ap (λ (n : List ℕ). isAmong n x) (sym (append-nil (map its (declaredIn g.done))))) (λ later. refl) (λ later. refl)
+              (λ x. g.same x ∙ ap (λ (n : List ℕ). is_among n x) (sym (append-nil (map its (declared_in g.done))))) (λ later. refl) (λ later. refl)
 
       -- One that does.
-      module _ (n : newIn b flags ≡ true) where
-        news : (tag_of line ≡ 0x03) × (isAmong g.seen (atomOf line) ≡ false)
-        news = go (eqb (tag_of line) 0x03) (isAmong g.seen (atomOf line)) refl refl (sym new_is ∙ n)
+      module _ (n : new_in b flags ≡ true) where
+        news : (tag_of line ≡ 0x03) × (is_among g.seen (atom_of line) ≡ false)
+        news = go (eqb (tag_of line) 0x03) (is_among g.seen (atom_of line)) refl refl (sym new_is ∙ n)
           where
-            go : (t u : Bool) → eqb (tag_of line) 0x03 ≡ t → isAmong g.seen (atomOf line) ≡ u → t && not u ≡ true
-                → (tag_of line ≡ 0x03) × (isAmong g.seen (atomOf line) ≡ false)
+            go : (t u : Bool) → eqb (tag_of line) 0x03 ≡ t → is_among g.seen (atom_of line) ≡ u → t && not u ≡ true
+                → (tag_of line ≡ 0x03) × (is_among g.seen (atom_of line) ≡ false)
             go true false t u q = (eqb-true (tag_of line) 0x03 t, u)
             go true true t u q = absurd (true≢false (sym q))
             go false u t v q = absurd (true≢false (sym q))
 
         abbrev here : Placed ℕ
-        here = placed (start_of line) (atomOf line)
+        here = placed (start_of line) (atom_of line)
 
-        declared-here : declaredIn (line ∷ []) ≡ here ∷ []
-        declared-here = declares line ∙ ap (λ (x : Bool). cond x (here ∷ []) []) (eq-eqb (tag_of line) 0x03 news.0)
+        declared_here : declared_in (line ∷ []) ≡ here ∷ []
+        declared_here = declares line ∙ ap (λ (x : Bool). cond x (here ∷ []) []) (eq-eqb (tag_of line) 0x03 news.0)
 
-        added : (room ≡ 0 → ⊥) → Declaring text (set flags (atomOf line) true) (room - 1) after
+        added : (room ≡ 0 → ⊥) → Declaring text (set flags (atom_of line) true) (room - 1) after
         added some =
             let u = news.1 in
             let left : room ≡ suc (room - 1) = omega arith in
-            grow g line after walked (here ∷ []) declared-here (set flags (atomOf line) true) (room - 1) (atomOf line ∷ g.seen) (simp length-set g.size)
-            (flag-more flags (atomOf line) g.seen (let s = small news.0 in let l = g.size in omega arith) g.flagged) (let f = g.few in omega arith)
-            (λ x. among-cons (atomOf line) g.seen x ∙ ap (cond (eqb (atomOf line) x) true) (g.same x)
-            ∙ sym (among-append (map its (declaredIn g.done)) (atomOf line) x))
-            (λ later. let h = new-here g.seen (atomOf line) later u in let f = g.few in omega arith)
-            (λ later. ap (λ (k : ℕ). overfullAt k g.seen (here ∷ later)) left ∙ overfull-new (room - 1) g.seen here later u)
+            grow g line after walked (here ∷ []) declared_here (set flags (atom_of line) true) (room - 1) (atom_of line ∷ g.seen) (simp length-set g.size)
+            (flag_more flags (atom_of line) g.seen (let s = small news.0 in let l = g.size in omega arith) g.flagged) (let f = g.few in omega arith)
+            (λ x. among_cons (atom_of line) g.seen x ∙ ap (cond (eqb (atom_of line) x) true) (g.same x)
+            ∙ sym (among_append (map its (declared_in g.done)) (atom_of line) x))
+            (λ later. let h = new_here g.seen (atom_of line) later u in let f = g.few in omega arith)
+            (λ later. ap (λ (k : ℕ). overfull_at k g.seen (here ∷ later)) left ∙ overfull_new (room - 1) g.seen here later u)
 
         -- There is no more room: the text is refused by 3 at this line.
-        overfull : room ≡ 0 → importText text ≡ refused (textRefusal 3 (start_of line))
+        overfull : room ≡ 0 → import_text text ≡ refused (text_refusal 3 (start_of line))
         overfull z =
             let s = lines_split text was walked in
-            let p = programTyped (linesIn text) in
-            let split : declaredIn (linesIn text) ≡ declaredIn g.done ++ (here ∷ declaredIn s.0) =
-            ap declaredIn s.1 ∙ declared-append (g.done ++ (line ∷ [])) s.0 ∙ places-more g.seen line g.done (declaredIn s.0)
-            ∙ ap (λ (l : List (Placed ℕ)). declaredIn g.done ++ (l ++ declaredIn s.0)) declared-here in
-            let names = ap (map its) split ∙ its-append (declaredIn g.done) (here ∷ declaredIn s.0) in
-            let counted = abducibles-counted (linesIn text) ∙ ap (newAmong []) names ∙ g.counts (atomOf line ∷ map its (declaredIn s.0)) in
-            let new = new-here g.seen (atomOf line) (map its (declaredIn s.0)) news.1 in
+            let p = program_typed (lines_in text) in
+            let split : declared_in (lines_in text) ≡ declared_in g.done ++ (here ∷ declared_in s.0) =
+            ap declared_in s.1 ∙ declared_append (g.done ++ (line ∷ [])) s.0 ∙ places_more g.seen line g.done (declared_in s.0)
+            ∙ ap (λ (l : List (Placed ℕ)). declared_in g.done ++ (l ++ declared_in s.0)) declared_here in
+            let names = ap (map its) split ∙ its_append (declared_in g.done) (here ∷ declared_in s.0) in
+            let counted = abducibles_counted (lines_in text) ∙ ap (new_among []) names ∙ g.counts (atom_of line ∷ map its (declared_in s.0)) in
+            let new = new_here g.seen (atom_of line) (map its (declared_in s.0)) news.1 in
             let many : 16 < length p.abducibles = omega arith in
-            let place : overfullAt 16 [] (declaredIn (linesIn text)) ≡ start_of line =
-            ap (overfullAt 16 []) split ∙ g.places (here ∷ declaredIn s.0) ∙ ap (λ (k : ℕ). overfullAt k g.seen (here ∷ declaredIn s.0)) z
-            ∙ overfull-here g.seen here (declaredIn s.0) news.1 in
-            import-checks text (linesIn text) p was refl ∙ rw (lt-leb (length p.abducibles) 16 many, place)
+            let place : overfull_at 16 [] (declared_in (lines_in text)) ≡ start_of line =
+            ap (overfull_at 16 []) split ∙ g.places (here ∷ declared_in s.0) ∙ ap (λ (k : ℕ). overfull_at k g.seen (here ∷ declared_in s.0)) z
+            ∙ overfull_here g.seen here (declared_in s.0) news.1 in
+            import_checks text (lines_in text) p was refl ∙ rw (lt-leb (length p.abducibles) 16 many, place)
 
-      pub declare-on : {new : Bool} {left : ℕ} {more : List Bool} → new ≡ newIn b flags → new && eqb room 0 ≡ false → left ≡ cond new (room - 1) room
+      pub declare_on : {new : Bool} {left : ℕ} {more : List Bool} → new ≡ new_in b flags → new && eqb room 0 ≡ false → left ≡ cond new (room - 1) room
           → more ≡ cond new (set flags b.atom true) flags → Declaring text more left after
-      declare-on {new} {left} {more} n h l m = go new n h l m
+      declare_on {new} {left} {more} n h l m = go new n h l m
         where
-          go : (t : Bool) → t ≡ newIn b flags → t && eqb room 0 ≡ false → left ≡ cond t (room - 1) room
+          go : (t : Bool) → t ≡ new_in b flags → t && eqb room 0 ≡ false → left ≡ cond t (room - 1) room
               → more ≡ cond t (set flags b.atom true) flags → Declaring text more left after
           go true q k x y =
-              let z : more ≡ set flags (atomOf line) true = y ∙ ap (λ (i : ℕ). set flags i true) atom-here in
+              let z : more ≡ set flags (atom_of line) true = y ∙ ap (λ (i : ℕ). set flags i true) atom_here in
               rw (z, x) (added (sym q) (λ w. true≢false (sym (eq-eqb room 0 w) ∙ k)))
           go false q k x y = rw (y, x) (kept (sym q))
 
-      pub declare-full : {new : Bool} → new ≡ newIn b flags → new && eqb room 0 ≡ true → importText text ≡ refused (textRefusal 3 b.start)
-      declare-full {new} n h =
+      pub declare_full : {new : Bool} → new ≡ new_in b flags → new && eqb room 0 ≡ true → import_text text ≡ refused (text_refusal 3 b.start)
+      declare_full {new} n h =
           let t = both new (eqb room 0) h in
-          overfull (sym n ∙ t.0) (eqb-true room 0 t.1) ∙ ap (λ (x : ℕ). refused (textRefusal 3 x)) (sym (ap (λ (x : Brief). x.start) is ∙ start_is line))
+          overfull (sym n ∙ t.0) (eqb-true room 0 t.1) ∙ ap (λ (x : ℕ). refused (text_refusal 3 x)) (sym (ap (λ (x : Brief). x.start) is ∙ start_is line))

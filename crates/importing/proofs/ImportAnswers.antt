@@ -1,22 +1,22 @@
 -- What is told of an import fixes the answer: it is found again from that.
 -- Assumes nothing.
 use mathlib.Core.Path.{◌≡◌, refl, sym, ap, ◌∙◌}
-use Rattle.text.specs.Lines.{textRefusal}
+use Rattle.text.specs.Lines.{text_refusal}
 use Rattle.importing.specs.declared.Imported.{Imported}
 use Rattle.importing.specs.declared.Imported.TheVariants.{Length, Short, Refused}
-use Rattle.importing.specs.Imports.{ImportTold, tells, refusedBy, refusedInText, importedTold}
+use Rattle.importing.specs.Imports.{ImportTold, tells, refused_by, refused_in_text, imported_told}
 
 -- Importing is refused by one number that names no place.
-abbrev pub importedFrom : ImportTold → Imported
-importedFrom (tells n) = Length n
-importedFrom (refusedBy n) = Short
-importedFrom (refusedInText n place) = Refused (textRefusal n place)
+abbrev pub imported_from : ImportTold → Imported
+imported_from (tells n) = Length n
+imported_from (refused_by n) = Short
+imported_from (refused_in_text n place) = Refused (text_refusal n place)
 
-pub imported-from : (r : Imported) → importedFrom (importedTold r) ≡ r
-unfolding importedTold
-imported-from (Length n) = refl
-imported-from Short = refl
-imported-from (Refused r) = refl
+pub imported_from_lem : (r : Imported) → imported_from (imported_told r) ≡ r
+unfolding imported_told
+imported_from_lem (Length n) = refl
+imported_from_lem Short = refl
+imported_from_lem (Refused r) = refl
 
-pub imported-fixed : {r s : Imported} → importedTold r ≡ importedTold s → r ≡ s
-imported-fixed {r} {s} e = sym (imported-from r) ∙ ap importedFrom e ∙ imported-from s
+pub imported_fixed : {r s : Imported} → imported_told r ≡ imported_told s → r ≡ s
+imported_fixed {r} {s} e = sym (imported_from_lem r) ∙ ap imported_from e ∙ imported_from_lem s

@@ -14,23 +14,23 @@ use Rattle.text.specs.declared.line.LineRead.{LineRead}
 use Rattle.text.specs.declared.line.LineRead.TheVariants as read
 use Rattle.text.specs.Lines.{Reading, accepted, refused, and_then, Line, fresh, lines_of}
 use Rattle.text.specs.Typed.{Placed, its}
-use Rattle.text.specs.LineAnswers.{linesAt, LineTells, LineEnds}
+use Rattle.text.specs.LineAnswers.{lines_at, LineTells, LineEnds}
 use Rattle.text.specs.contracts.line.LineRead.{the_type}
-use Rattle.text.proofs.Readings.{refused-not, through}
-use Rattle.importing.specs.Passes.{linesIn, Typed}
+use Rattle.text.proofs.Readings.{refused_not, through}
+use Rattle.importing.specs.Passes.{lines_in, Typed}
 
-pub its-append : {A : Type 0} (xs ys : List (Placed A)) → map its (xs ++ ys) ≡ map its xs ++ map its ys
-its-append [] ys = refl
-its-append (x ∷ xs) ys = ap (λ more. x.it ∷ more) (its-append xs ys)
+pub its_append : {A : Type 0} (xs ys : List (Placed A)) → map its (xs ++ ys) ≡ map its xs ++ map its ys
+its_append [] ys = refl
+its_append (x ∷ xs) ys = ap (λ more. x.it ∷ more) (its_append xs ys)
 
 -- The text's lines are those done and those from here on.
 pub record LinesRead (text : List ℕ) (done : List Line) (at : ℕ) : Type 0 where
   pub within : at ≤ length text
-  pub reads : lines_of text ≡ and_then (linesAt text fresh at) (λ rest. accepted (done ++ rest))
+  pub reads : lines_of text ≡ and_then (lines_at text fresh at) (λ rest. accepted (done ++ rest))
 
-all-accepted : (o : Reading (List Line)) → o ≡ and_then o (λ rest. accepted ([] ++ rest))
-all-accepted (accepted lines) = refl
-all-accepted (refused r) = refl
+all_accepted : (o : Reading (List Line)) → o ≡ and_then o (λ rest. accepted ([] ++ rest))
+all_accepted (accepted lines) = refl
+all_accepted (refused r) = refl
 
 one_further : (done : List Line) (line : Line) (o : Reading (List Line))
     → and_then (and_then o (λ lines. accepted (line ∷ lines))) (λ rest. accepted (done ++ rest))
@@ -42,49 +42,49 @@ same_lines : {a b : List Line} → ◌≡◌ {A = Reading (List Line)} (accepted
 same_lines e = cc
 
 pub lines_start : (text : List ℕ) → LinesRead text [] 0
-lines_start text = record { within = omega arith; reads = all-accepted (lines_of text) }
+lines_start text = record { within = omega arith; reads = all_accepted (lines_of text) }
 
 module _ {text : List ℕ} {done : List Line} {at : ℕ} (g : LinesRead text done at) {got : LineRead} (told : LineTells text fresh at got) where
-  pub lines-over : got ≡ read.End → lines_of text ≡ accepted done
-  lines-over e =
-      let end : linesAt text fresh at ≡ accepted [] = rw e at told in
+  pub lines_over : got ≡ read.End → lines_of text ≡ accepted done
+  lines_over e =
+      let end : lines_at text fresh at ≡ accepted [] = rw e at told in
       g.reads ∙ ap (λ (o : Reading (List Line)). and_then o (λ rest. accepted (done ++ rest))) end ∙ ap accepted (append-nil done)
 
-  pub lines-refused : {r : TextRefusal} → got ≡ read.Refused r → lines_of text ≡ refused r
-  lines-refused {r} e =
-      let end : linesAt text fresh at ≡ refused r = rw e at told in
+  pub lines_refused : {r : TextRefusal} → got ≡ read.Refused r → lines_of text ≡ refused r
+  lines_refused {r} e =
+      let end : lines_at text fresh at ≡ refused r = rw e at told in
       g.reads ∙ ap (λ (o : Reading (List Line)). and_then o (λ rest. accepted (done ++ rest))) end
 
   module _ {b : Brief} {after : ℕ} (e : got ≡ read.Line b after) where
     pub met : LineEnds text fresh at b after
     met = rw e at told
 
-    pub lines-on : LinesRead text (done ++ (met.line ∷ [])) after
-    lines-on = record {
+    pub lines_on : LinesRead text (done ++ (met.line ∷ [])) after
+    lines_on = record {
       within = met.within;
       reads =
           g.reads
           ∙ ap (λ (o : Reading (List Line)). and_then o (λ rest. accepted (done ++ rest))) met.reads
-          ∙ one_further done met.line (linesAt text fresh after);
+          ∙ one_further done met.line (lines_at text fresh after);
     }
 
-    pub lines-less : at < after
-    lines-less = met.later
+    pub lines_less : at < after
+    lines_less = met.later
 
 -- ---- of a text that was read
 
 module _ (text : List ℕ) (typed : Typed text) where
   -- All the lines: those done and the rest.
-  pub lines_split : {done : List Line} {at : ℕ} → LinesRead text done at → (rest : List Line) × (linesIn text ≡ done ++ rest)
+  pub lines_split : {done : List Line} {at : ℕ} → LinesRead text done at → (rest : List Line) × (lines_in text ≡ done ++ rest)
   lines_split {done} {at} g =
-      let t = through (linesAt text fresh at) (λ rest. accepted (done ++ rest)) (sym g.reads ∙ typed) in
+      let t = through (lines_at text fresh at) (λ rest. accepted (done ++ rest)) (sym g.reads ∙ typed) in
       (t.value, sym (same_lines t.after))
 
-  pub all_done : {done : List Line} → lines_of text ≡ accepted done → linesIn text ≡ done
+  pub all_done : {done : List Line} → lines_of text ≡ accepted done → lines_in text ≡ done
   all_done e = same_lines (sym typed ∙ e)
 
-  pub no-refusal : {X : Type 0} {r : TextRefusal} → lines_of text ≡ refused r → X
-  no-refusal e = refused-not (sym e ∙ typed)
+  pub no_refusal : {X : Type 0} {r : TextRefusal} → lines_of text ≡ refused r → X
+  no_refusal e = refused_not (sym e ∙ typed)
 
   -- What is read is no line: the lines are over.
   pub lines_end : {done : List Line} {at : ℕ} → LinesRead text done at → (got : LineRead) → LineTells text fresh at got
@@ -93,5 +93,5 @@ module _ (text : List ℕ) (typed : Typed text) where
     where
       go : (x : LineRead) → LineTells text fresh at x → OneOf (1 ∷ 2 ∷ []) (tag_of the_type x) → lines_of text ≡ accepted done
       go (read.Line b after) told k = ⊎_elim (λ (h : ◌≡◌ {A = ℕ} 0 1). absurd (omega arith)) (λ (h : ◌≡◌ {A = ℕ} 0 2). absurd (omega arith)) k
-      go (read.Refused r) told k = no-refusal (lines-refused g told refl)
-      go read.End told k = lines-over g told refl
+      go (read.Refused r) told k = no_refusal (lines_refused g told refl)
+      go read.End told k = lines_over g told refl

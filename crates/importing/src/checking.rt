@@ -1,6 +1,6 @@
 // The third and the fourth pass: the file's own checks of the rules and of the integrity rules, and how long their fields are.
 ghost use Rattle.std.specs.Prelude.{◌≡◌, ◌+◌, ◌≤◌};
-ghost use Rattle.importing.specs.Passes.{Typed, typed, Flagged, fixedIn, lineNumber, roomAfter, sizeAfter, RunTells, RunsTell};
+ghost use Rattle.importing.specs.Passes.{Typed, typed, Flagged, fixed_in, line_number, room_after, size_after, RunTells, RunsTell};
 
 use crate::declaring::flag_at;
 use text::TextRefusal;
@@ -15,7 +15,7 @@ pub enum RunChecked {
 
 // Whether a rule is headed by an abducible or its negation.
 fn is_fixed(line: Brief, tag: u8, flags: [bool; 256]) -> bool
-    ensures { result ≡ fixedIn line tag flags }
+    ensures { result ≡ fixed_in line tag flags }
 {
     (tag == 4) & flag_at(flags, line.atom)
 }
@@ -23,7 +23,7 @@ fn is_fixed(line: Brief, tag: u8, flags: [bool; 256]) -> bool
 // The number by which a line fails, and 0 where it passes or is of another tag.
 fn line_number(line: Brief, tag: u8, room: usize, fixed: bool) -> u8
     requires { line.count ≤ 18 }
-    ensures { result ≡ lineNumber line tag room fixed }
+    ensures { result ≡ line_number line tag room fixed }
 {
     if line.tag != tag {
         return 0;
@@ -41,7 +41,7 @@ fn line_number(line: Brief, tag: u8, room: usize, fixed: bool) -> u8
 }
 
 fn room_after(line: Brief, tag: u8, room: usize) -> usize
-    ensures { result ≡ roomAfter line tag room }
+    ensures { result ≡ room_after line tag room }
 {
     if line.tag != tag {
         return room;
@@ -54,7 +54,7 @@ fn room_after(line: Brief, tag: u8, room: usize) -> usize
 
 fn size_after(line: Brief, tag: u8, size: usize) -> usize
     requires { (line.count ≤ 18) × (size ≤ 65536) }
-    ensures { result ≡ sizeAfter line tag size }
+    ensures { result ≡ size_after line tag size }
 {
     if line.tag != tag {
         return size;

@@ -1,6 +1,6 @@
 // The second pass: which atoms are declared abducible, and the refusal of a seventeenth.
 ghost use Rattle.std.specs.Prelude.{◌≡◌, false, true, cond, ◌-◌, ◌<◌, ◌≤◌, length, get_or, set};
-ghost use Rattle.importing.specs.Passes.{Typed, newIn, DeclareTells, flaggedFrom, listedWith, list_of};
+ghost use Rattle.importing.specs.Passes.{Typed, new_in, DeclareTells, flagged_from, listed_with, list_of};
 
 use arrays::put;
 use text::TextRefusal;
@@ -24,7 +24,7 @@ pub(crate) fn flag_at(flags: [bool; 256], atom: usize) -> bool
 
 // Whether a line declares an atom that was not declared before.
 fn is_new(line: Brief, flags: [bool; 256]) -> bool
-    ensures { result ≡ newIn line flags }
+    ensures { result ≡ new_in line flags }
 {
     (line.tag == 3) & !flag_at(flags, line.atom)
 }
@@ -97,7 +97,7 @@ pub struct Abducibles {
 // With one more, if it is flagged.
 fn listed(list: Abducibles, atom: usize, flag: bool) -> Abducibles
     requires { (list.count < 65536) × ((atom < 65536) × (length list.numbers ≡ 17)) }
-    ensures { result ≡ listedWith list atom flag }
+    ensures { result ≡ listed_with list atom flag }
 {
     if !flag {
         return list;
@@ -111,7 +111,7 @@ fn listed(list: Abducibles, atom: usize, flag: bool) -> Abducibles
 // The flagged atoms below a count.
 pub(crate) fn rising(flags: [bool; 256], atoms: usize) -> Abducibles
     requires { atoms ≤ 256 }
-    ensures { result ≡ list_of (flaggedFrom flags 0 atoms) }
+    ensures { result ≡ list_of (flagged_from flags 0 atoms) }
 {
     let mut list = Abducibles {
         count: 0,

@@ -6,11 +6,11 @@ mod surveying;
 mod writing;
 
 ghost use Rattle.std.specs.Prelude.{◌≡◌, ◌≤◌, length};
-ghost use Rattle.papers.specs.Encoding.{encodeFile};
+ghost use Rattle.papers.specs.Encoding.{encode_file};
 ghost use Rattle.text.specs.Lines.{accepted};
-ghost use Rattle.text.specs.Importing.{importText};
-ghost use Rattle.importing.specs.Imports.{importedTold, importTold, importAfter};
-ghost use Rattle.importing.specs.Passes.{Typed, typed, declaredNames, Flagged, list_of};
+ghost use Rattle.text.specs.Importing.{import_text};
+ghost use Rattle.importing.specs.Imports.{imported_told, import_told, import_after};
+ghost use Rattle.importing.specs.Passes.{Typed, typed, declared_names, Flagged, list_of};
 
 use checking::{RunsChecked, check_runs};
 use declaring::{Abducibles, declare, rising};
@@ -34,12 +34,12 @@ fn import_checked(
     abducibles: Abducibles,
     size: usize,
 ) -> Imported
-    requires { (importText text.now ≡ accepted (typed text.now))
+    requires { (import_text text.now ≡ accepted (typed text.now))
         × ((atoms ≡ (typed text.now).atoms)
         × ((abducibles ≡ list_of (typed text.now).abducibles)
-        × (size ≡ length (encodeFile (typed text.now))))) }
-    ensures { (importedTold result ≡ importTold (importText text.now) (length file.old))
-        × (file.new ≡ importAfter (importText text.now) file.old) }
+        × (size ≡ length (encode_file (typed text.now))))) }
+    ensures { (imported_told result ≡ import_told (import_text text.now) (length file.old))
+        × (file.new ≡ import_after (import_text text.now) file.old) }
 {
     if file.len() < size {
         return Imported::Short;
@@ -52,10 +52,10 @@ fn import_checked(
 fn import_declared(text: &[u8], file: &mut [u8], atoms: usize, flags: [bool; 256]) -> Imported
     requires { Typed text.now
         × ((atoms ≡ (typed text.now).atoms)
-        × (Flagged flags (declaredNames text.now)
+        × (Flagged flags (declared_names text.now)
         × (length (typed text.now).abducibles ≤ 16))) }
-    ensures { (importedTold result ≡ importTold (importText text.now) (length file.old))
-        × (file.new ≡ importAfter (importText text.now) file.old) }
+    ensures { (imported_told result ≡ import_told (import_text text.now) (length file.old))
+        × (file.new ≡ import_after (import_text text.now) file.old) }
 {
     let checked = check_runs(text, flags);
     let RunsChecked::Lengths(rules, integrity) = checked else {
@@ -72,8 +72,8 @@ fn import_declared(text: &[u8], file: &mut [u8], atoms: usize, flags: [bool; 256
 // Of a text that was read.
 fn import_read(text: &[u8], file: &mut [u8], atoms: usize) -> Imported
     requires { Typed text.now × (atoms ≡ (typed text.now).atoms) }
-    ensures { (importedTold result ≡ importTold (importText text.now) (length file.old))
-        × (file.new ≡ importAfter (importText text.now) file.old) }
+    ensures { (imported_told result ≡ import_told (import_text text.now) (length file.old))
+        × (file.new ≡ import_after (import_text text.now) file.old) }
 {
     let declared = declare(text);
     let refusal = declared.refusal;
@@ -85,8 +85,8 @@ fn import_read(text: &[u8], file: &mut [u8], atoms: usize) -> Imported
 }
 
 pub fn import_text(text: &[u8], file: &mut [u8]) -> Imported
-    ensures { (importedTold result ≡ importTold (importText text.now) (length file.old))
-        × (file.new ≡ importAfter (importText text.now) file.old) }
+    ensures { (imported_told result ≡ import_told (import_text text.now) (length file.old))
+        × (file.new ≡ import_after (import_text text.now) file.old) }
 {
     let surveyed = survey(text);
     let Surveyed::Atoms(atoms) = surveyed else {

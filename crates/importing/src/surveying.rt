@@ -1,7 +1,7 @@
 // The first pass: the text is read once to its end, and the greatest atom is found.
 ghost use Rattle.std.specs.Prelude.{◌≡◌};
 ghost use Rattle.text.specs.Lines.{lines_of};
-ghost use Rattle.importing.specs.Passes.{surveyAnswer};
+ghost use Rattle.importing.specs.Passes.{survey_answer};
 
 use text::TextRefusal;
 use text::line::{LineRead, greater, read_line};
@@ -14,7 +14,7 @@ pub enum Surveyed {
 }
 
 pub(crate) fn survey(text: &[u8]) -> Surveyed
-    ensures { result ≡ surveyAnswer (lines_of text.now) }
+    ensures { result ≡ survey_answer (lines_of text.now) }
 {
     let mut at: usize = 0;
     let mut atoms: usize = 1;

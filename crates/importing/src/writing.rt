@@ -1,9 +1,9 @@
 // The last passes: the file is written, its rules and its integrity rules each by a pass over the lines.
 ghost use Rattle.std.specs.Prelude.{◌≡◌, [], ◌∷◌, ◌≤◌, ◌<◌, length};
-ghost use Rattle.papers.specs.Encoding.{encodeField, encodeRun, encodeFile};
+ghost use Rattle.papers.specs.Encoding.{encode_field, encode_run, encode_file};
 ghost use Rattle.dual.specs.Bytes.{filled, Fills};
-ghost use Rattle.importing.specs.Passes.{typed, contentsIn, LineFits, LineFills, RunFits, Sized};
-ghost use Rattle.importing.specs.Passes.{fromIntegrity, fromRules, fromAbducibles, fromAtoms, FileFits};
+ghost use Rattle.importing.specs.Passes.{typed, contents_in, LineFits, LineFills, RunFits, Sized};
+ghost use Rattle.importing.specs.Passes.{from_integrity, from_rules, from_abducibles, from_atoms, FileFits};
 
 use crate::declaring::Abducibles;
 use field_writer::{put_heading, write_end, write_field};
@@ -26,7 +26,7 @@ fn write_line(buffer: &mut [u8], text: &[u8], at: usize, line: Brief, tag: u8) -
 // The fields of one tag.
 fn write_run(buffer: &mut [u8], text: &[u8], tag: u8) -> usize
     requires { RunFits text.now tag (length buffer.old) }
-    ensures { Fills (encodeRun tag (contentsIn tag text.now)) buffer.old result buffer.new }
+    ensures { Fills (encode_run tag (contents_in tag text.now)) buffer.old result buffer.new }
 {
     let mut at: usize = 0;
     let mut end: usize = 0;
@@ -43,8 +43,8 @@ fn write_run(buffer: &mut [u8], text: &[u8], tag: u8) -> usize
 
 // The integrity rules and the end.
 fn write_integrity(buffer: &mut [u8], text: &[u8])
-    requires { Sized text.now × (length (fromIntegrity text.now) ≤ length buffer.old) }
-    ensures { buffer.new ≡ filled (fromIntegrity text.now) buffer.old }
+    requires { Sized text.now × (length (from_integrity text.now) ≤ length buffer.old) }
+    ensures { buffer.new ≡ filled (from_integrity text.now) buffer.old }
 {
     let end = write_run(buffer, text, 5);
     write_end(&mut buffer[end..]);
@@ -52,8 +52,8 @@ fn write_integrity(buffer: &mut [u8], text: &[u8])
 
 // The rules, and what follows them.
 fn write_rules(buffer: &mut [u8], text: &[u8])
-    requires { Sized text.now × (length (fromRules text.now) ≤ length buffer.old) }
-    ensures { buffer.new ≡ filled (fromRules text.now) buffer.old }
+    requires { Sized text.now × (length (from_rules text.now) ≤ length buffer.old) }
+    ensures { buffer.new ≡ filled (from_rules text.now) buffer.old }
 {
     let end = write_run(buffer, text, 4);
     write_integrity(&mut buffer[end..], text);
@@ -64,8 +64,8 @@ fn write_abducibles(buffer: &mut [u8], text: &[u8], abducibles: Abducibles)
     requires { Sized text.now
         × ((abducibles.count ≤ 16)
         × ((length abducibles.numbers ≡ 17)
-        × (length (fromAbducibles abducibles text.now) ≤ length buffer.old))) }
-    ensures { buffer.new ≡ filled (fromAbducibles abducibles text.now) buffer.old }
+        × (length (from_abducibles abducibles text.now) ≤ length buffer.old))) }
+    ensures { buffer.new ≡ filled (from_abducibles abducibles text.now) buffer.old }
 {
     let numbers = abducibles.numbers;
     let count = abducibles.count;
@@ -79,8 +79,8 @@ fn write_atoms(buffer: &mut [u8], text: &[u8], atoms: usize, abducibles: Abducib
         × ((abducibles.count ≤ 16)
         × ((length abducibles.numbers ≡ 17)
         × ((atoms ≤ 256)
-        × (length (fromAtoms atoms abducibles text.now) ≤ length buffer.old)))) }
-    ensures { buffer.new ≡ filled (fromAtoms atoms abducibles text.now) buffer.old }
+        × (length (from_atoms atoms abducibles text.now) ≤ length buffer.old)))) }
+    ensures { buffer.new ≡ filled (from_atoms atoms abducibles text.now) buffer.old }
 {
     put_heading(buffer, 0x02, 2, atoms);
     write_abducibles(&mut buffer[5..], text, abducibles);
@@ -89,7 +89,7 @@ fn write_atoms(buffer: &mut [u8], text: &[u8], atoms: usize, abducibles: Abducib
 // Edition 1.
 fn write_edition(buffer: &mut [u8])
     requires { 3 < length buffer.old }
-    ensures { buffer.new ≡ filled (encodeField 0x01 (1 ∷ [])) buffer.old }
+    ensures { buffer.new ≡ filled (encode_field 0x01 (1 ∷ [])) buffer.old }
 {
     buffer[0] = 0x01;
     buffer[1] = 0;
@@ -100,7 +100,7 @@ fn write_edition(buffer: &mut [u8])
 // The file, field after field, each into the part of the buffer that begins where the one before ended.
 pub(crate) fn write_file(buffer: &mut [u8], text: &[u8], atoms: usize, abducibles: Abducibles)
     requires { FileFits text.now atoms abducibles (length buffer.old) }
-    ensures { buffer.new ≡ filled (encodeFile (typed text.now)) buffer.old }
+    ensures { buffer.new ≡ filled (encode_file (typed text.now)) buffer.old }
 {
     write_edition(buffer);
     write_atoms(&mut buffer[4..], text, atoms, abducibles);

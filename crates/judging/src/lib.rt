@@ -1,5 +1,5 @@
 // Judging one scenario of two papers.
-ghost use Rattle.papers.specs.Reading.{readPapers};
+ghost use Rattle.papers.specs.Reading.{read_papers};
 ghost use Rattle.judging.specs.Judging.{Judges};
 
 use dual_writer::DualWritten;
@@ -18,7 +18,7 @@ pub enum Judged {
 }
 
 pub fn judge(file: &[u8], sheet: &[u8], scenario: u32, dual: &mut [u8], model: &mut [u8]) -> Judged
-    ensures { Judges (readPapers file.now sheet.now) scenario dual.old model.old
+    ensures { Judges (read_papers file.now sheet.now) scenario dual.old model.old
         result dual.new model.new }
 {
     let read = reading::read_papers(file, sheet);

@@ -1,16 +1,16 @@
 -- Sixty-four scenarios at once: bit l of word o says whether o is in the set of lane l.
 use Rattle.std.specs.Prelude.{◌≡◌, Bool, true, false, cond, List, ℕ, ◌/◌, ◌%◌, ◌^◌, ◌≤◌, ◌<◌, eqb, get_or}
 use Rattle.std.specs.Int.Bits.{bit_or}
-use Rattle.literals.specs.Numbering.{explicitConjugate, listed}
-use Rattle.model.specs.Sets.{Set, setOf}
+use Rattle.literals.specs.Numbering.{explicit_conjugate, listed}
+use Rattle.model.specs.Sets.{Set, set_of}
 
 -- Bit l of a word.
-unfoldable pub inLane : ℕ → ℕ → Bool
-inLane l w = eqb (w / 2 ^ l % 2) 1
+unfoldable pub lane_bit : ℕ → ℕ → Bool
+lane_bit l w = eqb (w / 2 ^ l % 2) 1
 
 -- The set of lane l, of n flags.
 unfoldable pub lane : ℕ → ℕ → List ℕ → Set
-lane n l words = setOf n (λ o. inLane l (get_or words o 0))
+lane n l words = set_of n (λ o. lane_bit l (get_or words o 0))
 
 -- Past the first n words no lane is set.
 pub record NoneBeyond (n : ℕ) (words : List ℕ) : Type 0 where
@@ -26,13 +26,13 @@ pub record Written (n : ℕ) (word : ℕ → ℕ) (before after : List ℕ) : Ty
   pub beyond : KeptFrom n before after
 
 -- What backs o besides its 08 field, in each lane: its conjugate in T(j), or a false abducible literal.
-unfoldable pub backingWord : ℕ → List ℕ → List ℕ → ℕ → ℕ
-backingWord n trues falses o = bit_or (cond (listed n o) (get_or trues (explicitConjugate o) 0) 0) (get_or falses o 0)
+unfoldable pub backing_word : ℕ → List ℕ → List ℕ → ℕ → ℕ
+backing_word n trues falses o = bit_or (cond (listed n o) (get_or trues (explicit_conjugate o) 0) 0) (get_or falses o 0)
 
 -- The lanes in which two rows of words are different sets of n flags.
 pub record Changed (n : ℕ) (before after : List ℕ) (word : ℕ) : Type 0 where
-  pub same : (l : ℕ) → inLane l word ≡ false → lane n l before ≡ lane n l after
-  pub other : (l : ℕ) → inLane l word ≡ true → lane n l before ≡ lane n l after → ⊥
+  pub same : (l : ℕ) → lane_bit l word ≡ false → lane n l before ≡ lane n l after
+  pub other : (l : ℕ) → lane_bit l word ≡ true → lane n l before ≡ lane n l after → ⊥
 
 -- Word o of a row.
 abbrev pub word_at : List ℕ → ℕ → ℕ

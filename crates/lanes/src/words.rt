@@ -2,7 +2,7 @@
 ghost use Rattle.std.specs.Prelude.{◌≡◌, ◌<◌};
 ghost use Rattle.literals.specs.declared.bodies.BodyLiteral.TheVariants.{Is};
 ghost use Rattle.literals.specs.BodyLiterals.{Below};
-ghost use Rattle.lanes.specs.Lanes.{inLane};
+ghost use Rattle.lanes.specs.Lanes.{lane_bit};
 ghost use Rattle.lanes.specs.Words.{OtherLanes, word_of, Literals, BodyWord, Laned};
 
 use decoded::body_literal_in;
@@ -12,7 +12,7 @@ use literals::bodies::BodyLiteral;
 // Whether lane l of a word is set.
 pub fn in_lane(word: u64, l: usize) -> bool
     requires { l < 64 }
-    ensures { result ≡ inLane l word }
+    ensures { result ≡ lane_bit l word }
 {
     (word >> l) % 2 == 1
 }

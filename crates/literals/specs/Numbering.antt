@@ -6,7 +6,7 @@ use Rattle.literals.specs.declared.forms.Form.{Form}
 use Rattle.literals.specs.declared.forms.Form.TheVariants as form
 use Rattle.literals.specs.declared.forms.FormOf.{FormOf}
 use Rattle.literals.specs.declared.forms.FormOf.TheVariants as form_of
-use Rattle.literals.specs.Section21.{conjE, conjD}
+use Rattle.literals.specs.Section21.{conj_e, conj_d}
 
 -- "objective literal 2a is atom a"
 abbrev pub positive : ℕ → ℕ
@@ -17,58 +17,58 @@ abbrev pub negative : ℕ → ℕ
 negative a = 2 * a + 1
 
 -- back from these two: the atom
-abbrev pub atomNumber : ℕ → ℕ
-atomNumber o = o / 2
+abbrev pub atom_number : ℕ → ℕ
+atom_number o = o / 2
 
 -- which of these two it is
-abbrev pub explicitlyNegated : ℕ → Bool
-explicitlyNegated o = eqb (o % 2) 1
+abbrev pub explicitly_negated : ℕ → Bool
+explicitly_negated o = eqb (o % 2) 1
 
 -- "Literal 2o is objective literal o"
 abbrev pub literal : ℕ → ℕ
 literal o = 2 * o
 
 -- "2o+1 is not(o)"
-abbrev pub defaultNegation : ℕ → ℕ
-defaultNegation o = 2 * o + 1
+abbrev pub default_negation : ℕ → ℕ
+default_negation o = 2 * o + 1
 
 -- back from these two: the objective literal
-abbrev pub objectiveNumber : ℕ → ℕ
-objectiveNumber l = l / 2
+abbrev pub objective_number : ℕ → ℕ
+objective_number l = l / 2
 
 -- which of these two it is
-abbrev pub defaultNegated : ℕ → Bool
-defaultNegated l = eqb (l % 2) 1
+abbrev pub default_negated : ℕ → Bool
+default_negated l = eqb (l % 2) 1
 
 -- so the number of the literal of each form,
 unfoldable pub number_of : Form → ℕ
 number_of (form.Atom a) = literal (positive a.0)
 number_of (form.NegatedAtom a) = literal (negative a.0)
-number_of (form.NotAtom a) = defaultNegation (positive a.0)
-number_of (form.NotNegatedAtom a) = defaultNegation (negative a.0)
+number_of (form.NotAtom a) = default_negation (positive a.0)
+number_of (form.NotNegatedAtom a) = default_negation (negative a.0)
 
 -- and back: the form, by whether it is default negated, whether its objective literal is negated, and the atom of that
-unfoldable pub formBy : Bool → Bool → Atom → Form
-formBy false false a = form.Atom a
-formBy false true a = form.NegatedAtom a
-formBy true false a = form.NotAtom a
-formBy true true a = form.NotNegatedAtom a
+unfoldable pub form_by : Bool → Bool → Atom → Form
+form_by false false a = form.Atom a
+form_by false true a = form.NegatedAtom a
+form_by true false a = form.NotAtom a
+form_by true true a = form.NotNegatedAtom a
 
-unfoldable pub formOf : ℕ → Form
-formOf l = formBy (defaultNegated l) (explicitlyNegated (objectiveNumber l)) (record { 0 = atomNumber (objectiveNumber l) })
+unfoldable pub literal_form : ℕ → Form
+literal_form l = form_by (default_negated l) (explicitly_negated (objective_number l)) (record { 0 = atom_number (objective_number l) })
 
--- the objective literal that conj_E gives; where it gives none, which is never so of an objective literal (`explicit-never-none`), o
-unfoldable pub objectiveOr : ℕ → FormOf → ℕ
-objectiveOr o (form_of.Is l) = objectiveNumber (number_of l)
-objectiveOr o form_of.Nothing = o
+-- the objective literal that conj_E gives; where it gives none, which is never so of an objective literal (`explicit_never_none`), o
+unfoldable pub objective_or : ℕ → FormOf → ℕ
+objective_or o (form_of.Is l) = objective_number (number_of l)
+objective_or o form_of.Nothing = o
 
 -- "these two are conjugates": conj_E by the numbers of objective literals
-unfoldable pub explicitConjugate : ℕ → ℕ
-explicitConjugate o = objectiveOr o (conjE (formOf (literal o)))
+unfoldable pub explicit_conjugate : ℕ → ℕ
+explicit_conjugate o = objective_or o (conj_e (literal_form (literal o)))
 
 -- "the default conjugate (not added or removed)", from document 01, The dual table: conj_D by the numbers of literals
-unfoldable pub defaultConjugate : ℕ → ℕ
-defaultConjugate l = number_of (conjD (formOf l))
+unfoldable pub default_conjugate : ℕ → ℕ
+default_conjugate l = number_of (conj_d (literal_form l))
 
 -- "Falsum is objective literal 2n"
 abbrev pub falsum : ℕ → ℕ
@@ -79,21 +79,21 @@ abbrev pub listed : ℕ → ℕ → Bool
 listed n o = ltb o (falsum n)
 
 -- so the literals that a file can name are those below 4n
-abbrev pub literalListed : ℕ → ℕ → Bool
-literalListed n l = ltb l (4 * n)
+abbrev pub literal_listed : ℕ → ℕ → Bool
+literal_listed n l = ltb l (4 * n)
 
 -- and these have a form
-abbrev pub listedForm : ℕ → ℕ → FormOf
-listedForm n l = cond (literalListed n l) (form_of.Is (formOf l)) form_of.Nothing
+abbrev pub listed_form : ℕ → ℕ → FormOf
+listed_form n l = cond (literal_listed n l) (form_of.Is (literal_form l)) form_of.Nothing
 
 -- "Judged literals: N = 2n+1"
 abbrev pub judged : ℕ → ℕ
 judged n = 2 * n + 1
 
 -- "Rules have fold numbers from 0 in file order"
-abbrev pub foldOfRule : ℕ → ℕ
-foldOfRule index = index
+abbrev pub fold_of_rule : ℕ → ℕ
+fold_of_rule index = index
 
 -- "integrity rules go on from there"
-abbrev pub foldOfIntegrity : ℕ → ℕ → ℕ
-foldOfIntegrity rules index = rules + index
+abbrev pub fold_of_integrity : ℕ → ℕ → ℕ
+fold_of_integrity rules index = rules + index

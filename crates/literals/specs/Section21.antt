@@ -6,15 +6,15 @@ use Rattle.literals.specs.declared.forms.FormOf.TheVariants.{Is, Nothing}
 
 -- "If an objective literal O is an atom A, the explicit conjugate of O (conj_E(O)) is the atom -A; otherwise if O has the form -A, the explicit
 -- conjugate of O is A." A default negation is no objective literal and has none.
-unfoldable pub conjE : Form → FormOf
-conjE (Atom a) = Is (NegatedAtom a)
-conjE (NegatedAtom a) = Is (Atom a)
-conjE (NotAtom a) = Nothing
-conjE (NotNegatedAtom a) = Nothing
+unfoldable pub conj_e : Form → FormOf
+conj_e (Atom a) = Is (NegatedAtom a)
+conj_e (NegatedAtom a) = Is (Atom a)
+conj_e (NotAtom a) = Nothing
+conj_e (NotNegatedAtom a) = Nothing
 
 -- "the default conjugate (conj_D(O)) of an objective literal O is not(O), and the default conjugate of not(O) is O"
-unfoldable pub conjD : Form → Form
-conjD (Atom a) = NotAtom a
-conjD (NegatedAtom a) = NotNegatedAtom a
-conjD (NotAtom a) = Atom a
-conjD (NotNegatedAtom a) = NegatedAtom a
+unfoldable pub conj_d : Form → Form
+conj_d (Atom a) = NotAtom a
+conj_d (NegatedAtom a) = NotNegatedAtom a
+conj_d (NotAtom a) = Atom a
+conj_d (NotNegatedAtom a) = NegatedAtom a

@@ -1,7 +1,7 @@
 // Document 02, Card 5: "In bodies of 04 and 05 the literal FFFF now means undefined, the constant u of document 000." The reader, the
 // dual's writer, truth and falsity read a body's literals by `body_literal`.
 ghost use Rattle.std.specs.Prelude.{◌≡◌};
-ghost use Rattle.literals.specs.BodyLiterals.{bodyLiteral, bodyNumber, bodyListed};
+ghost use Rattle.literals.specs.BodyLiterals.{body_literal, body_number, body_listed};
 
 use crate::{Literal, is_literal_listed};
 
@@ -13,7 +13,7 @@ pub enum BodyLiteral {
 }
 
 pub fn body_literal(number: usize) -> BodyLiteral
-    ensures { result ≡ bodyLiteral number }
+    ensures { result ≡ body_literal number }
 {
     if number == 65535 {
         return BodyLiteral::Undefined;
@@ -23,7 +23,7 @@ pub fn body_literal(number: usize) -> BodyLiteral
 
 // Back: the number that stands in a body.
 pub fn body_number(l: BodyLiteral) -> usize
-    ensures { result ≡ bodyNumber l }
+    ensures { result ≡ body_number l }
 {
     match l {
         BodyLiteral::Is(literal) => literal.0,
@@ -33,7 +33,7 @@ pub fn body_number(l: BodyLiteral) -> usize
 
 // Those that a body can have: the literals that a file can name, and u.
 pub fn is_body_listed(l: BodyLiteral, atoms: u16) -> bool
-    ensures { result ≡ bodyListed atoms l }
+    ensures { result ≡ body_listed atoms l }
 {
     match l {
         BodyLiteral::Is(literal) => is_literal_listed(literal, atoms),

@@ -1,7 +1,7 @@
 // Document 000, section 2.1: "An objective literal is either an atom A, or the explicit negation of A", and a literal "either has the form O, where O
 // is an objective literal, or not(O)". So there are four forms, each of one atom.
 ghost use Rattle.std.specs.Prelude.{◌≡◌, ◌/◌, ◌%◌, ◌<◌};
-ghost use Rattle.literals.specs.Numbering.{formOf, listedForm, literal, number_of};
+ghost use Rattle.literals.specs.Numbering.{literal_form, listed_form, literal, number_of};
 
 use crate::{Atom, Literal, Objective, is_listed, is_literal_listed};
 
@@ -23,7 +23,7 @@ pub enum FormOf {
 // The form of a literal whose atom is one of 16 bits.
 fn literal_form(l: Literal) -> Form
     requires { l.0 < 262144 }
-    ensures { result ≡ formOf l.0 }
+    ensures { result ≡ literal_form l.0 }
 {
     let atom = Atom((l.0 / 4) as u16);
     let place = l.0 % 4;
@@ -37,7 +37,7 @@ fn literal_form(l: Literal) -> Form
 
 // The form of a literal. A number that is not below 4n has none.
 pub fn form_of(l: Literal, atoms: u16) -> FormOf
-    ensures { result ≡ listedForm atoms l.0 }
+    ensures { result ≡ listed_form atoms l.0 }
 {
     if is_literal_listed(l, atoms) {
         let form = literal_form(l);
@@ -49,7 +49,7 @@ pub fn form_of(l: Literal, atoms: u16) -> FormOf
 
 // The form of an objective literal, which is that of its literal. Falsum, and a number past it, has none.
 pub fn objective_form(o: Objective, atoms: u16) -> FormOf
-    ensures { result ≡ listedForm atoms (literal o.0) }
+    ensures { result ≡ listed_form atoms (literal o.0) }
 {
     if !is_listed(o, atoms) {
         return FormOf::Nothing;

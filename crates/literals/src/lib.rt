@@ -5,8 +5,8 @@ pub mod bodies;
 pub mod forms;
 
 ghost use Rattle.std.specs.Prelude.{◌≡◌};
-ghost use Rattle.literals.specs.Numbering.{positive, negative, explicitlyNegated, objectiveNumber, defaultNegated};
-ghost use Rattle.literals.specs.Numbering.{falsum, listed, literalListed, judged, foldOfRule, foldOfIntegrity};
+ghost use Rattle.literals.specs.Numbering.{positive, negative, explicitly_negated, objective_number, default_negated};
+ghost use Rattle.literals.specs.Numbering.{falsum, listed, literal_listed, judged, fold_of_rule, fold_of_integrity};
 
 #[derive(Drop)]
 pub struct Atom(pub u16);
@@ -35,19 +35,19 @@ pub fn negative(a: Atom) -> Objective
 }
 
 pub fn is_explicitly_negated(o: Objective) -> bool
-    ensures { result ≡ explicitlyNegated o.0 }
+    ensures { result ≡ explicitly_negated o.0 }
 {
     o.0 % 2 == 1
 }
 
 pub fn objective_of(l: Literal) -> Objective
-    ensures { result.0 ≡ objectiveNumber l.0 }
+    ensures { result.0 ≡ objective_number l.0 }
 {
     Objective(l.0 / 2)
 }
 
 pub fn is_default_negated(l: Literal) -> bool
-    ensures { result ≡ defaultNegated l.0 }
+    ensures { result ≡ default_negated l.0 }
 {
     l.0 % 2 == 1
 }
@@ -66,14 +66,14 @@ pub fn judged(atoms: u16) -> usize
 }
 
 pub fn rule_fold(index: u16) -> Fold
-    ensures { result.0 ≡ foldOfRule index }
+    ensures { result.0 ≡ fold_of_rule index }
 {
     Fold(index as usize)
 }
 
 // The fold of an integrity rule of a file with so many rules.
 pub fn integrity_fold(rules: u16, index: u16) -> Fold
-    ensures { result.0 ≡ foldOfIntegrity rules index }
+    ensures { result.0 ≡ fold_of_integrity rules index }
 {
     Fold(rules as usize + index as usize)
 }
@@ -87,7 +87,7 @@ pub fn is_listed(o: Objective, atoms: u16) -> bool
 
 // The literals that a file can name: those and their default negations.
 pub fn is_literal_listed(l: Literal, atoms: u16) -> bool
-    ensures { result ≡ literalListed atoms l.0 }
+    ensures { result ≡ literal_listed atoms l.0 }
 {
     l.0 < 4 * (atoms as usize)
 }

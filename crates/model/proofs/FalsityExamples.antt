@@ -7,8 +7,8 @@ use Rattle.papers.specs.Program.{Program}
 use Rattle.dual.specs.Table.{literal, dual}
 use Rattle.model.specs.Sets.{Set, empty}
 use Rattle.model.specs.Iteration.{iterate}
-use Rattle.model.specs.Model.{modelBytes, rounds}
-use Rattle.model.specs.Falsity.{backedSet, greatest}
+use Rattle.model.specs.Model.{model_bytes, rounds}
+use Rattle.model.specs.Falsity.{backed_set, greatest}
 use Rattle.model.specs.ComputingModels.{falsity}
 
 -- ---- a ring of two, p :- q; q :- p: it fails, because falsity is the greatest set
@@ -21,31 +21,31 @@ two = record {
   integrity = [];
 }
 
-abbrev pub ringOfTwo : Set
-ringOfTwo = true ∷ false ∷ true ∷ false ∷ false ∷ []
+abbrev pub ring_of_two : Set
+ring_of_two = true ∷ false ∷ true ∷ false ∷ false ∷ []
 
 -- From the dual all is false, the ring too,
-pub two-greatest : greatest two 0 (dual two) (empty 5) ≡ true ∷ true ∷ true ∷ true ∷ true ∷ []
+pub two_greatest : greatest two 0 (dual two) (empty 5) ≡ true ∷ true ∷ true ∷ true ∷ true ∷ []
 unfolding falsity
-two-greatest = refl
+two_greatest = refl
 
 -- and so in the model. Both fail, in the first round; the second changes nothing.
-pub two-model : modelBytes two 0 ≡ 2 ∷ 2 ∷ 2 ∷ 2 ∷ 2 ∷ []
+pub two_model : model_bytes two 0 ≡ 2 ∷ 2 ∷ 2 ∷ 2 ∷ 2 ∷ []
 unfolding falsity
-two-model = refl
+two_model = refl
 
-pub two-rounds : rounds two 0 ≡ 1
+pub two_rounds : rounds two 0 ≡ 1
 unfolding falsity
-two-rounds = refl
+two_rounds = refl
 
 -- From the empty set up, the same step never reaches p and q: falsity is no least set.
-pub two-least : iterate 5 (backedSet two 0 (dual two) (empty 5)) (empty 5) ≡ false ∷ true ∷ false ∷ true ∷ true ∷ []
+pub two_least : iterate 5 (backed_set two 0 (dual two) (empty 5)) (empty 5) ≡ false ∷ true ∷ false ∷ true ∷ true ∷ []
 unfolding falsity
-two-least = refl
+two_least = refl
 
-pub two-least-rests : backedSet two 0 (dual two) (empty 5) (false ∷ true ∷ false ∷ true ∷ true ∷ []) ≡ false ∷ true ∷ false ∷ true ∷ true ∷ []
+pub two_least_rests : backed_set two 0 (dual two) (empty 5) (false ∷ true ∷ false ∷ true ∷ true ∷ []) ≡ false ∷ true ∷ false ∷ true ∷ true ∷ []
 unfolding falsity
-two-least-rests = refl
+two_least_rests = refl
 
 -- ---- a and -a, both facts: each is false because its conjugate is true
 
@@ -58,14 +58,14 @@ both = record {
 }
 
 -- Neither has a field in the dual: nothing else backs them.
-pub both-dual : dual both ≡ literal 2 [] ∷ []
+pub both_dual : dual both ≡ literal 2 [] ∷ []
 unfolding falsity
-both-dual = refl
+both_dual = refl
 
-pub both-greatest : greatest both 0 (dual both) (true ∷ true ∷ false ∷ []) ≡ true ∷ true ∷ true ∷ []
+pub both_greatest : greatest both 0 (dual both) (true ∷ true ∷ false ∷ []) ≡ true ∷ true ∷ true ∷ []
 unfolding falsity
-both-greatest = refl
+both_greatest = refl
 
-pub both-model : modelBytes both 0 ≡ 3 ∷ 3 ∷ 2 ∷ []
+pub both_model : model_bytes both 0 ≡ 3 ∷ 3 ∷ 2 ∷ []
 unfolding falsity
-both-model = refl
+both_model = refl

@@ -5,51 +5,51 @@ use mathlib.Core.Path.{◌≡◌, refl, ap}
 use mathlib.Core.Bool.{Bool, true, false}
 use mathlib.Core.List.{List, [], ◌∷◌, ◌++◌}
 use Prim.Native.Nat.{ℕ}
-use Rattle.literals.specs.BodyLiterals.{bodyLiteral}
-use Rattle.literals.proofs.BodyLaws.{undefined-read}
+use Rattle.literals.specs.BodyLiterals.{body_literal}
+use Rattle.literals.proofs.BodyLaws.{undefined_read}
 use Rattle.papers.specs.Program.{Program}
 use Rattle.papers.specs.Tests.{◌and◌, ◌or◌}
-use Rattle.papers.proofs.TestLaws.{false-and, true-and, false-or}
+use Rattle.papers.proofs.TestLaws.{false_and, true_and, false_or}
 use Rattle.model.specs.Sets.{Set}
-use Rattle.model.specs.LeastSet.{literalHolds, bodyHolds}
-use Rattle.model.specs.Model.{trueReduct, possibleReduct}
-use Rattle.model.specs.Falsity.{someHolds}
+use Rattle.model.specs.LeastSet.{literal_holds, body_holds}
+use Rattle.model.specs.Model.{true_reduct, possible_reduct}
+use Rattle.model.specs.Falsity.{some_holds}
 
-and-false : (b : Bool) → (b and false) ≡ false
+and_false : (b : Bool) → (b and false) ≡ false
 unfolding ◌and◌
-and-false true = refl
-and-false false = refl
+and_false true = refl
+and_false false = refl
 
 -- What u does in a body is what `undefined` says.
-undefined-holds : (undefined : Bool) (set negated : Set) → literalHolds undefined set negated (bodyLiteral 0xFFFF) ≡ undefined
-unfolding literalHolds
-undefined-holds undefined set negated = rw undefined-read
+undefined_holds : (undefined : Bool) (set negated : Set) → literal_holds undefined set negated (body_literal 0xFFFF) ≡ undefined
+unfolding literal_holds
+undefined_holds undefined set negated = rw undefined_read
 
 module _ (set negated : Set) (after : List ℕ) where
-  body-barred : (before : List ℕ) → bodyHolds false set negated (before ++ 0xFFFF ∷ after) ≡ false
-  unfolding bodyHolds
-  body-barred [] = rw (undefined-holds false set negated) (false-and (bodyHolds false set negated after))
-  body-barred (l ∷ more) = rw (body-barred more) (and-false (literalHolds false set negated (bodyLiteral l)))
+  body_barred : (before : List ℕ) → body_holds false set negated (before ++ 0xFFFF ∷ after) ≡ false
+  unfolding body_holds
+  body_barred [] = rw (undefined_holds false set negated) (false_and (body_holds false set negated after))
+  body_barred (l ∷ more) = rw (body_barred more) (and_false (literal_holds false set negated (body_literal l)))
 
-  body-unmoved : (before : List ℕ) → bodyHolds true set negated (before ++ 0xFFFF ∷ after) ≡ bodyHolds true set negated (before ++ after)
-  unfolding bodyHolds
-  body-unmoved [] = rw (undefined-holds true set negated) (true-and (bodyHolds true set negated after))
-  body-unmoved (l ∷ more) = ap (λ (b : Bool). literalHolds true set negated (bodyLiteral l) and b) (body-unmoved more)
+  body_unmoved : (before : List ℕ) → body_holds true set negated (before ++ 0xFFFF ∷ after) ≡ body_holds true set negated (before ++ after)
+  unfolding body_holds
+  body_unmoved [] = rw (undefined_holds true set negated) (true_and (body_holds true set negated after))
+  body_unmoved (l ∷ more) = ap (λ (b : Bool). literal_holds true set negated (body_literal l) and b) (body_unmoved more)
 
   -- "From the dual": a listed u adds nothing to what is listed.
-  pub listed-never-holds : (before : List ℕ) → someHolds set negated (before ++ 0xFFFF ∷ after) ≡ someHolds set negated (before ++ after)
-  unfolding someHolds
-  listed-never-holds [] = rw (undefined-holds false set negated) (false-or (someHolds set negated after))
-  listed-never-holds (l ∷ more) = ap (λ (b : Bool). literalHolds false set negated (bodyLiteral l) or b) (listed-never-holds more)
+  pub listed_never_holds : (before : List ℕ) → some_holds set negated (before ++ 0xFFFF ∷ after) ≡ some_holds set negated (before ++ after)
+  unfolding some_holds
+  listed_never_holds [] = rw (undefined_holds false set negated) (false_or (some_holds set negated after))
+  listed_never_holds (l ∷ more) = ap (λ (b : Bool). literal_holds false set negated (body_literal l) or b) (listed_never_holds more)
 
 module _ (p : Program) (s : ℕ) (set negated : Set) (before after : List ℕ) where
   -- "It never holds": no T has a rule with u in its body.
-  pub never-holds : (falses : Set) → bodyHolds (trueReduct p s falses).undefined set negated (before ++ 0xFFFF ∷ after) ≡ false
-  unfolding trueReduct
-  never-holds falses = body-barred set negated after before
+  pub never_holds : (falses : Set) → body_holds (true_reduct p s falses).undefined set negated (before ++ 0xFFFF ∷ after) ≡ false
+  unfolding true_reduct
+  never_holds falses = body_barred set negated after before
 
   -- "and never fails .. : in P it blocks no rule": the body holds as without it.
-  pub blocks-no-rule : (trues : Set) → bodyHolds (possibleReduct p s trues).undefined set negated (before ++ 0xFFFF ∷ after)
-      ≡ bodyHolds (possibleReduct p s trues).undefined set negated (before ++ after)
-  unfolding possibleReduct
-  blocks-no-rule trues = body-unmoved set negated after before
+  pub blocks_no_rule : (trues : Set) → body_holds (possible_reduct p s trues).undefined set negated (before ++ 0xFFFF ∷ after)
+      ≡ body_holds (possible_reduct p s trues).undefined set negated (before ++ after)
+  unfolding possible_reduct
+  blocks_no_rule trues = body_unmoved set negated after before

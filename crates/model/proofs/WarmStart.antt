@@ -7,16 +7,16 @@ use mathlib.Core.Logic.{⊎_elim}
 use Prim.Native.Nat.{ℕ, ◌<◌}
 use lib.Dec.{T}
 use Rattle.literals.specs.Numbering.{judged}
-use Rattle.papers.specs.Program.{Rule, Program, allRules}
+use Rattle.papers.specs.Program.{Rule, Program, all_rules}
 use Rattle.papers.specs.Tests.{◌or◌}
-use Rattle.model.specs.Sets.{Set, has, setOf}
+use Rattle.model.specs.Sets.{Set, has, set_of}
 use Rattle.model.specs.Iteration.{iterate}
-use Rattle.model.specs.Scenarios.{trueAbducibles}
+use Rattle.model.specs.Scenarios.{true_abducibles}
 use Rattle.model.specs.LeastSet.{Reduct, least}
-use Rattle.model.specs.Model.{trueReduct, trueSet, successor, interpretationAt}
+use Rattle.model.specs.Model.{true_reduct, true_set, successor, interpretation_at}
 use Rattle.papers.proofs.TestLaws.{either, either_left}
-use Rattle.model.proofs.SetLaws.{Sub, setOf-in, setOf-of, sub-antisym}
-use Rattle.model.proofs.LeastLaws.{least-length, least-closed, least-in}
+use Rattle.model.proofs.SetLaws.{Sub, set_of_in, set_of_of, sub_antisym}
+use Rattle.model.proofs.LeastLaws.{least_length, least_closed, least_in}
 use Rattle.model.proofs.Rounds.{increasing}
 
 -- The same with another seed.
@@ -25,7 +25,7 @@ seeded g seed = record { seed = seed; allowed = g.allowed; negated = g.negated; 
 
 -- Those below n that are in one of two sets.
 unfoldable pub joined : ℕ → Set → Set → Set
-joined n s t = setOf n (λ o. has s o or has t o)
+joined n s t = set_of n (λ o. has s o or has t o)
 
 module _ (n : ℕ) (rules : List Rule) (g : Reduct) where
   -- From a seed that holds the first and whose allowed members are in the least set, the least set is the same.
@@ -33,31 +33,31 @@ module _ (n : ℕ) (rules : List Rule) (g : Reduct) where
       → ((o : ℕ) → o < n → T (has g.allowed o) → T (has seed o) → T (has (least n rules g) o))
       → least n rules (seeded g seed) ≡ least n rules g
   warm seed from to =
-      let c = least-closed n rules g in
-      let d = least-closed n rules (seeded g seed) in
-      sub-antisym (least n rules (seeded g seed)) (least n rules g) (least-length n rules (seeded g seed) ∙ sym (least-length n rules g))
-      (least-in n rules (seeded g seed) (least n rules g) (record { seeds = to; heads = c.heads }))
-      (least-in n rules g (least n rules (seeded g seed)) (record { seeds = λ o h a x. d.seeds o h a (from o h x); heads = d.heads }))
+      let c = least_closed n rules g in
+      let d = least_closed n rules (seeded g seed) in
+      sub_antisym (least n rules (seeded g seed)) (least n rules g) (least_length n rules (seeded g seed) ∙ sym (least_length n rules g))
+      (least_in n rules (seeded g seed) (least n rules g) (record { seeds = to; heads = c.heads }))
+      (least_in n rules g (least n rules (seeded g seed)) (record { seeds = λ o h a x. d.seeds o h a (from o h x); heads = d.heads }))
 
   -- From the seed and a part of the least set together.
-  pub warm-joined : (part : Set) → Sub part (least n rules g) → least n rules (seeded g (joined n g.seed part)) ≡ least n rules g
+  pub warm_joined : (part : Set) → Sub part (least n rules g) → least n rules (seeded g (joined n g.seed part)) ≡ least n rules g
   unfolding joined
-  warm-joined part h =
+  warm_joined part h =
       warm (joined n g.seed part)
-      (λ o l x. setOf-of n (λ q. has g.seed q or has part q) o l (either_left _ _ x))
+      (λ o l x. set_of_of n (λ q. has g.seed q or has part q) o l (either_left _ _ x))
       (λ o l a x.
-      ⊎_elim ((least-closed n rules g).seeds o l a) (h.at o)
-      (either (has g.seed o) (has part o) (setOf-in n (λ q. has g.seed q or has part q) o x).1))
+      ⊎_elim ((least_closed n rules g).seeds o l a) (h.at o)
+      (either (has g.seed o) (has part o) (set_of_in n (λ q. has g.seed q or has part q) o x).1))
 
 module _ (p : Program) (s : ℕ) where
   -- T, from any part of it,
-  pub true-warm : (falses part : Set) → Sub part (trueSet p s falses)
-      → least (judged p.atoms) (allRules p) (seeded (trueReduct p s falses) (joined (judged p.atoms) (trueAbducibles p s) part))
-      ≡ trueSet p s falses
-  unfolding trueSet trueReduct
-  true-warm falses part h = warm-joined (judged p.atoms) (allRules p) (trueReduct p s falses) part h
+  pub true_warm : (falses part : Set) → Sub part (true_set p s falses)
+      → least (judged p.atoms) (all_rules p) (seeded (true_reduct p s falses) (joined (judged p.atoms) (true_abducibles p s) part))
+      ≡ true_set p s falses
+  unfolding true_set true_reduct
+  true_warm falses part h = warm_joined (judged p.atoms) (all_rules p) (true_reduct p s falses) part h
 
   -- and T(j) is a part of T(j+1), by F(j).
-  pub true-grows : (j : ℕ) → Sub (interpretationAt p s j).trues (trueSet p s (interpretationAt p s j).falses)
-  unfolding interpretationAt iterate successor
-  true-grows j = (increasing p s j).trues
+  pub true_grows : (j : ℕ) → Sub (interpretation_at p s j).trues (true_set p s (interpretation_at p s j).falses)
+  unfolding interpretation_at iterate successor
+  true_grows j = (increasing p s j).trues

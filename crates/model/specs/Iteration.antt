@@ -8,9 +8,9 @@ module _ {X : Type 0} where
   iterate (suc k) f x = f (iterate k f x)
 
   -- How often f is applied, from x on, until it changes nothing: at most k times.
-  unfoldable pub firstStill : (X → X → Bool) → (X → X) → ℕ → X → ℕ
-  firstStill same f zero x = zero
-  firstStill same f (suc k) x =
+  unfoldable pub first_still : (X → X → Bool) → (X → X) → ℕ → X → ℕ
+  first_still same f zero x = zero
+  first_still same f (suc k) x =
       let next = f x in
-      let later = suc (firstStill same f k next) in
+      let later = suc (first_still same f k next) in
       cond (same next x) zero later

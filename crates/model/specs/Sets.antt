@@ -10,13 +10,13 @@ abbrev pub has : Set → ℕ → Bool
 has set o = get_or set o false
 
 -- The n flags from o on, by a test.
-unfoldable pub flagsFrom : (ℕ → Bool) → ℕ → ℕ → Set
-flagsFrom test zero o = []
-flagsFrom test (suc n) o = test o ∷ flagsFrom test n (suc o)
+unfoldable pub flags_from : (ℕ → Bool) → ℕ → ℕ → Set
+flags_from test zero o = []
+flags_from test (suc n) o = test o ∷ flags_from test n (suc o)
 
 -- Those below n that pass a test.
-abbrev pub setOf : ℕ → (ℕ → Bool) → Set
-setOf n test = flagsFrom test n 0
+abbrev pub set_of : ℕ → (ℕ → Bool) → Set
+set_of n test = flags_from test n 0
 
 unfoldable pub empty : ℕ → Set
 empty n = replicate n false
@@ -26,14 +26,14 @@ full n = replicate n true
 
 -- Those below n outside the set.
 unfoldable pub complement : ℕ → Set → Set
-complement n set = setOf n (λ o. not (has set o))
+complement n set = set_of n (λ o. not (has set o))
 
-unfoldable pub sameFlag : Bool → Bool → Bool
-sameFlag true b = b
-sameFlag false b = not b
+unfoldable pub same_flag : Bool → Bool → Bool
+same_flag true b = b
+same_flag false b = not b
 
-unfoldable pub sameSet : Set → Set → Bool
-sameSet [] [] = true
-sameSet [] (b ∷ t) = false
-sameSet (a ∷ s) [] = false
-sameSet (a ∷ s) (b ∷ t) = sameFlag a b and sameSet s t
+unfoldable pub same_set : Set → Set → Bool
+same_set [] [] = true
+same_set [] (b ∷ t) = false
+same_set (a ∷ s) [] = false
+same_set (a ∷ s) (b ∷ t) = same_flag a b and same_set s t

@@ -1,6 +1,6 @@
 // The two-byte numbers of a paper, and those that are read as one of document 01's numberings: from here on their types tell them apart.
 ghost use Rattle.std.specs.Prelude.{◌≡◌, ◌+◌, ◌<◌, length};
-ghost use Rattle.literals.specs.BodyLiterals.{bodyLiteral, bodyNumber};
+ghost use Rattle.literals.specs.BodyLiterals.{body_literal, body_number};
 ghost use Rattle.papers.specs.Field.{number_in};
 
 use literals::bodies::{BodyLiteral, body_literal};
@@ -50,7 +50,7 @@ pub fn literal_at(bytes: &[u8], place: usize) -> Literal
 // A literal of a body: a number or u.
 pub fn body_literal_at(bytes: &[u8], place: usize) -> BodyLiteral
     requires { place + 1 < length bytes.now }
-    ensures { (result ≡ bodyLiteral (number_in bytes.now place)) × (bodyNumber result < 65536) }
+    ensures { (result ≡ body_literal (number_in bytes.now place)) × (body_number result < 65536) }
 {
     body_literal(number_at(bytes, place))
 }

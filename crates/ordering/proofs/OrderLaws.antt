@@ -12,9 +12,9 @@ use Rattle.ordering.specs.Orders.{Placed, Ordered, Written, own, start_at}
 -- ---- writing
 
 -- One number more.
-pub written-more : {number : ℕ → ℕ} {i : ℕ} {before after : List ℕ} (v : ℕ) → i < length after → v ≡ number i → Written number i before after
+pub written_more : {number : ℕ → ℕ} {i : ℕ} {before after : List ℕ} (v : ℕ) → i < length after → v ≡ number i → Written number i before after
     → Written number (i + 1) before (set after i v)
-written-more {number = number} {i = i} {after = after} v h e w = record {
+written_more {number = number} {i = i} {after = after} v h e w = record {
   at = set_more after i v number h e w.at;
   stays = record {
     sized = length-set after i v ∙ w.stays.sized;
@@ -25,35 +25,35 @@ written-more {number = number} {i = i} {after = after} v h e w = record {
 -- ---- orders
 
 -- What the test reads at one place.
-pub placed-there : {count k row rank back : ℕ} (order ranks : List ℕ) → row ≡ get_or order k 0 → row < count → rank ≡ get_or ranks k 0 → rank < count
+pub placed_there : {count k row rank back : ℕ} (order ranks : List ℕ) → row ≡ get_or order k 0 → row < count → rank ≡ get_or ranks k 0 → rank < count
     → back ≡ get_or order rank 0 → back ≡ k → Placed count order ranks k
-placed-there order ranks e h f g p q = record {
+placed_there order ranks e h f g p q = record {
   row_below = omega arith;
   rank_below = omega arith;
-  at-rank = ap (λ (n : ℕ). get_or order n 0) (sym f) ∙ sym p ∙ q;
+  at_rank = ap (λ (n : ℕ). get_or order n 0) (sym f) ∙ sym p ∙ q;
 }
 
 -- The rows' own order passes the test.
-pub own-ordered : {count : ℕ} {before order between ranks : List ℕ} → Written own count before order → Written own count between ranks
+pub own_ordered : {count : ℕ} {before order between ranks : List ℕ} → Written own count before order → Written own count between ranks
     → Ordered count order ranks
-own-ordered {order = order} w v = record {
+own_ordered {order = order} w v = record {
   placed = λ k h. record {
     row_below = let e = w.at k h in omega arith;
     rank_below = let e = v.at k h in omega arith;
-    at-rank = ap (λ (n : ℕ). get_or order n 0) (v.at k h) ∙ w.at k h;
+    at_rank = ap (λ (n : ℕ). get_or order n 0) (v.at k h) ∙ w.at k h;
   };
 }
 
 -- Whoever visits the rows in such an order visits every row and nothing else.
-pub visits-all : {count : ℕ} {order ranks starts before visits : List ℕ} → Ordered count order ranks
+pub visits_all : {count : ℕ} {order ranks starts before visits : List ℕ} → Ordered count order ranks
     → Written (start_at order starts) count before visits → Visits count starts visits
-visits-all {order = order} {ranks = ranks} {starts = starts} o w = record {
+visits_all {order = order} {ranks = ranks} {starts = starts} o w = record {
   row_of = λ visit. get_or order visit 0;
-  visit-of = λ row. get_or ranks row 0;
-  each = λ visit h. record { row_below = (o.placed visit h).row_below; visit-below = h; meets = w.at visit h };
+  visit_of = λ row. get_or ranks row 0;
+  each = λ visit h. record { row_below = (o.placed visit h).row_below; visit_below = h; meets = w.at visit h };
   every = λ row h. record {
     row_below = h;
-    visit-below = (o.placed row h).rank_below;
-    meets = w.at (get_or ranks row 0) (o.placed row h).rank_below ∙ ap (λ (n : ℕ). get_or starts n 0) (o.placed row h).at-rank;
+    visit_below = (o.placed row h).rank_below;
+    meets = w.at (get_or ranks row 0) (o.placed row h).rank_below ∙ ap (λ (n : ℕ). get_or starts n 0) (o.placed row h).at_rank;
   };
 }

@@ -9,7 +9,7 @@ use Rattle.rows.specs.Visits.{Visits}
 pub record Placed (count : ℕ) (order ranks : List ℕ) (k : ℕ) : Type 0 where
   pub row_below : get_or order k 0 < count
   pub rank_below : get_or ranks k 0 < count
-  pub at-rank : get_or order (get_or ranks k 0) 0 ≡ k
+  pub at_rank : get_or order (get_or ranks k 0) 0 ≡ k
 
 -- So it is at every place and for every row.
 pub record Ordered (count : ℕ) (order ranks : List ℕ) : Type 0 where

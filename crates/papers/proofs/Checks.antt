@@ -22,19 +22,19 @@ checked false n others e = absurd (omega arith)
 
 module _ {A : Type 0} where
   -- A refusal is no acceptance.
-  pub refused-not : {X : Type 0} {r : Refusal} {a : A} → refused r ≡ accepted a → X
-  refused-not e = absurd (true≢false cc)
+  pub refused_not : {X : Type 0} {r : Refusal} {a : A} → refused r ≡ accepted a → X
+  refused_not e = absurd (true≢false cc)
 
   -- What was accepted after checks: they passed.
   pub passed : (n : ℕ) (paper : Paper) (place : ℕ) (next : Outcome A) {a : A} → passing n paper place next ≡ accepted a
       → (n ≡ 0) × (next ≡ accepted a)
   passed zero paper place next e = (refl, e)
-  passed (suc n) paper place next e = refused-not e
+  passed (suc n) paper place next e = refused_not e
 
-  pub passing-refuses : (n : ℕ) (paper : Paper) (place : ℕ) (next : Outcome A) → (n ≡ 0 → ⊥)
+  pub passing_refuses : (n : ℕ) (paper : Paper) (place : ℕ) (next : Outcome A) → (n ≡ 0 → ⊥)
       → passing n paper place next ≡ refused (refusal n paper place)
-  passing-refuses zero paper place next h = absurd (h refl)
-  passing-refuses (suc n) paper place next h = refl
+  passing_refuses zero paper place next h = absurd (h refl)
+  passing_refuses (suc n) paper place next h = refl
 
 -- ---- outcomes
 
@@ -47,4 +47,4 @@ module _ {A B : Type 0} where
 
   pub through : (o : Outcome A) (next : A → Outcome B) {b : B} → and_then o next ≡ accepted b → Through o next b
   through (accepted a) next e = record { value = a; first = refl; after = e }
-  through (refused r) next e = refused-not e
+  through (refused r) next e = refused_not e

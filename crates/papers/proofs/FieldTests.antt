@@ -1,4 +1,4 @@
--- Laws of one field as the code meets them: one for each answer of `fieldFault`, from the tests at a place of the paper that lead to it.
+-- Laws of one field as the code meets them: one for each answer of `field_fault`, from the tests at a place of the paper that lead to it.
 -- Assumes nothing.
 use mathlib.Core.Path.{◌≡◌, sym, ap, ◌∙◌}
 use mathlib.Core.Bool.{Bool, true, false}
@@ -12,77 +12,77 @@ use lib.Seq.{get_or-drop, length-take-le}
 use Rattle.papers.specs.declared.Paper.{Paper}
 use Rattle.papers.specs.declared.FieldRead.TheVariants.{Content, Refused}
 use Rattle.papers.specs.Outcome.{accepted, refusal, check}
-use Rattle.papers.specs.Field.{number, size_of, contentOf, lengthAllowed, fieldFault, readField}
-use Rattle.papers.specs.Answers.{fieldAnswer}
-use Rattle.papers.proofs.Checks.{passing-refuses}
+use Rattle.papers.specs.Field.{number, size_of, content_of, length_allowed, field_fault, read_field}
+use Rattle.papers.specs.Answers.{field_answer}
+use Rattle.papers.proofs.Checks.{passing_refuses}
 use Rattle.papers.proofs.FieldLaws.{faultless}
 
 -- What stands at a place is the first byte from there on.
-pub tag-there : (place : ℕ) (bytes : List ℕ) → get_or (drop place bytes) 0 0 ≡ get_or bytes place 0
-tag-there place bytes = get_or-drop place bytes 0 0 ∙ ap (λ (i : ℕ). get_or bytes i 0) (omega arith)
+pub tag_there : (place : ℕ) (bytes : List ℕ) → get_or (drop place bytes) 0 0 ≡ get_or bytes place 0
+tag_there place bytes = get_or-drop place bytes 0 0 ∙ ap (λ (i : ℕ). get_or bytes i 0) (omega arith)
 
 -- The length that a field gives, by the two bytes after its tag.
-pub size-there : (place : ℕ) (bytes : List ℕ) → size_of (drop place bytes) ≡ number (get_or bytes (place + 1) 0) (get_or bytes (place + 1 + 1) 0)
+pub size_there : (place : ℕ) (bytes : List ℕ) → size_of (drop place bytes) ≡ number (get_or bytes (place + 1) 0) (get_or bytes (place + 1 + 1) 0)
 unfolding size_of
-size-there place bytes =
+size_there place bytes =
     rw (get_or-drop place bytes 1 0, get_or-drop place bytes 2 0)
     (ap (λ (i : ℕ). number (get_or bytes (place + 1) 0) (get_or bytes i 0)) (omega arith))
 
 module _ (tag : ℕ) (full : Bool) (place : ℕ) (bytes : List ℕ) where
   abbrev fault : ℕ
-  fault = fieldFault tag full (drop place bytes)
+  fault = field_fault tag full (drop place bytes)
 
   -- How many bytes there are from the place on.
   abbrev left : ℕ
   left = length bytes - place
 
-  pub fault-cut : left < 3 → 1 ≡ fault
-  unfolding fieldFault
-  fault-cut h = rw (length-drop place bytes, lt-leb 3 left h)
+  pub fault_cut : left < 3 → 1 ≡ fault
+  unfolding field_fault
+  fault_cut h = rw (length-drop place bytes, lt-leb 3 left h)
 
   module _ (heading : 3 ≤ left) where
-    pub fault-stray : (get_or bytes place 0 ≡ tag → ⊥) → 2 ≡ fault
-    unfolding fieldFault
-    fault-stray h = rw (length-drop place bytes, le-leb 3 left heading, tag-there place bytes, ne_eqb (get_or bytes place 0) tag h)
+    pub fault_stray : (get_or bytes place 0 ≡ tag → ⊥) → 2 ≡ fault
+    unfolding field_fault
+    fault_stray h = rw (length-drop place bytes, le-leb 3 left heading, tag_there place bytes, ne_eqb (get_or bytes place 0) tag h)
 
     module _ (tagged : get_or bytes place 0 ≡ tag) where
-      pub fault-full : full ≡ true → 9 ≡ fault
-      unfolding fieldFault
-      fault-full h = rw (length-drop place bytes, le-leb 3 left heading, tag-there place bytes, eq-eqb (get_or bytes place 0) tag tagged, h)
+      pub fault_full : full ≡ true → 9 ≡ fault
+      unfolding field_fault
+      fault_full h = rw (length-drop place bytes, le-leb 3 left heading, tag_there place bytes, eq-eqb (get_or bytes place 0) tag tagged, h)
 
       module _ (room : full ≡ false) {size : ℕ} (is : size ≡ number (get_or bytes (place + 1) 0) (get_or bytes (place + 1 + 1) 0)) where
         -- Heading, tag and count passed: the length is left, and the content.
-        by_size : fault ≡ check (lengthAllowed tag size) 3 (check (leb (3 + size) left) 1 0)
-        unfolding fieldFault
+        by_size : fault ≡ check (length_allowed tag size) 3 (check (leb (3 + size) left) 1 0)
+        unfolding field_fault
         by_size =
-            let sized : size_of (drop place bytes) ≡ size = size-there place bytes ∙ sym is in
-            rw (length-drop place bytes, le-leb 3 left heading, tag-there place bytes, eq-eqb (get_or bytes place 0) tag tagged, room, sized)
+            let sized : size_of (drop place bytes) ≡ size = size_there place bytes ∙ sym is in
+            rw (length-drop place bytes, le-leb 3 left heading, tag_there place bytes, eq-eqb (get_or bytes place 0) tag tagged, room, sized)
 
-        pub fault-misfit : lengthAllowed tag size ≡ false → 3 ≡ fault
-        fault-misfit h = rw (by_size, h)
+        pub fault_misfit : length_allowed tag size ≡ false → 3 ≡ fault
+        fault_misfit h = rw (by_size, h)
 
-        pub fault-short : lengthAllowed tag size ≡ true → left - 3 < size → 1 ≡ fault
-        fault-short a h = rw (by_size, a, lt-leb (3 + size) left (omega arith))
+        pub fault_short : length_allowed tag size ≡ true → left - 3 < size → 1 ≡ fault
+        fault_short a h = rw (by_size, a, lt-leb (3 + size) left (omega arith))
 
-        pub fault-none : lengthAllowed tag size ≡ true → size ≤ left - 3 → 0 ≡ fault
-        fault-none a h = rw (by_size, a, le-leb (3 + size) left (omega arith))
+        pub fault_none : length_allowed tag size ≡ true → size ≤ left - 3 → 0 ≡ fault
+        fault_none a h = rw (by_size, a, le-leb (3 + size) left (omega arith))
 
 -- ---- the answer for a field
 
-module _ (paper : Paper) (tag : ℕ) (full : Bool) (place : ℕ) (bytes : List ℕ) {fault : ℕ} (is : fault ≡ fieldFault tag full (drop place bytes)) where
-  pub field-refused : (fault ≡ 0 → ⊥) → Refused (refusal fault paper place) ≡ fieldAnswer place (readField paper tag full place bytes)
-  unfolding readField
-  field-refused h = rw (← is, passing-refuses fault paper place (accepted (contentOf (drop place bytes))) h)
+module _ (paper : Paper) (tag : ℕ) (full : Bool) (place : ℕ) (bytes : List ℕ) {fault : ℕ} (is : fault ≡ field_fault tag full (drop place bytes)) where
+  pub field_refused : (fault ≡ 0 → ⊥) → Refused (refusal fault paper place) ≡ field_answer place (read_field paper tag full place bytes)
+  unfolding read_field
+  field_refused h = rw (← is, passing_refuses fault paper place (accepted (content_of (drop place bytes))) h)
 
   module _ (none : fault ≡ 0) where
     -- A heading stands there.
-    pub field-heading : place + 2 < length bytes
-    field-heading = let f = (faultless tag full (drop place bytes) (sym is ∙ none)).0 in omega (arith, length-drop place bytes)
+    pub field_heading : place + 2 < length bytes
+    field_heading = let f = (faultless tag full (drop place bytes) (sym is ∙ none)).0 in omega (arith, length-drop place bytes)
 
-    pub field-content : {size : ℕ} → size ≡ number (get_or bytes (place + 1) 0) (get_or bytes (place + 1 + 1) 0)
-        → Content (place + 3) (place + 3 + size) ≡ fieldAnswer place (readField paper tag full place bytes)
-    unfolding readField contentOf
-    field-content {size} e =
-        let s : size_of (drop place bytes) ≡ size = size-there place bytes ∙ sym e in
+    pub field_content : {size : ℕ} → size ≡ number (get_or bytes (place + 1) 0) (get_or bytes (place + 1 + 1) 0)
+        → Content (place + 3) (place + 3 + size) ≡ field_answer place (read_field paper tag full place bytes)
+    unfolding read_field content_of
+    field_content {size} e =
+        let s : size_of (drop place bytes) ≡ size = size_there place bytes ∙ sym e in
         let f : 3 + size_of (drop place bytes) ≤ length (drop place bytes) = (faultless tag full (drop place bytes) (sym is ∙ none)).1.1.1.1 in
         rw (← is, none, s, length-take-le size (drop 3 (drop place bytes)) (omega (arith, length-drop 3 (drop place bytes))))

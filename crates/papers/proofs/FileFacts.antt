@@ -8,32 +8,32 @@ use lib.ListN.{length}
 use Rattle.papers.specs.declared.Contents.{Contents}
 use Rattle.papers.specs.declared.FileRead.TheVariants.{Accepted}
 use Rattle.papers.specs.Outcome.{accepted}
-use Rattle.papers.specs.Reading.{readFile, programIn}
+use Rattle.papers.specs.Reading.{read_file, program_in}
 use Rattle.papers.specs.Valid.{Valid}
-use Rattle.papers.specs.Answers.{contentsOf, fileAnswer}
-use Rattle.papers.proofs.Accepted.{accepted-valid}
-use Rattle.papers.proofs.ReadersGot.{file-accepted}
+use Rattle.papers.specs.Answers.{contents_of, file_answer}
+use Rattle.papers.proofs.Accepted.{accepted_valid}
+use Rattle.papers.proofs.ReadersGot.{file_accepted}
 
 -- The answer of an accepted file tells of the program in it.
 pub record Told (bytes : List ℕ) (contents : Contents) : Type 0 where
-  pub is : readFile bytes ≡ accepted (programIn bytes)
-  pub contents-are : contentsOf (programIn bytes) ≡ contents
+  pub is : read_file bytes ≡ accepted (program_in bytes)
+  pub contents_are : contents_of (program_in bytes) ≡ contents
 
-pub told : (bytes : List ℕ) (contents : Contents) → fileAnswer (readFile bytes) ≡ Accepted contents → Told bytes contents
-unfolding programIn
+pub told : (bytes : List ℕ) (contents : Contents) → file_answer (read_file bytes) ≡ Accepted contents → Told bytes contents
+unfolding program_in
 told bytes contents e =
-    let f = file-accepted (readFile bytes) (sym e) refl in
-    record { is = rw f.is; contents-are = rw f.is f.told }
+    let f = file_accepted (read_file bytes) (sym e) refl in
+    record { is = rw f.is; contents_are = rw f.is f.told }
 
-module _ (bytes : List ℕ) (contents : Contents) (answer : fileAnswer (readFile bytes) ≡ Accepted contents) where
-  pub program-valid : Valid (programIn bytes)
-  program-valid = accepted-valid bytes (programIn bytes) (told bytes contents answer).is
+module _ (bytes : List ℕ) (contents : Contents) (answer : file_answer (read_file bytes) ≡ Accepted contents) where
+  pub program_valid : Valid (program_in bytes)
+  program_valid = accepted_valid bytes (program_in bytes) (told bytes contents answer).is
 
-  pub atoms_are : (programIn bytes).atoms ≡ contents.atoms
-  atoms_are = ap (λ (x : Contents). x.atoms) (told bytes contents answer).contents-are
+  pub atoms_are : (program_in bytes).atoms ≡ contents.atoms
+  atoms_are = ap (λ (x : Contents). x.atoms) (told bytes contents answer).contents_are
 
-  pub abducibles-are : length (programIn bytes).abducibles ≡ contents.abducibles
-  abducibles-are = ap (λ (x : Contents). x.abducibles) (told bytes contents answer).contents-are
+  pub abducibles_are : length (program_in bytes).abducibles ≡ contents.abducibles
+  abducibles_are = ap (λ (x : Contents). x.abducibles) (told bytes contents answer).contents_are
 
-  pub few-atoms : contents.atoms ≤ 256
-  few-atoms = let a = atoms_are in omega (arith, program-valid.fewAtoms)
+  pub few_atoms_lem : contents.atoms ≤ 256
+  few_atoms_lem = let a = atoms_are in omega (arith, program_valid.few_atoms)

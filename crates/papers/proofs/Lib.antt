@@ -29,7 +29,7 @@ pub mod FoldLaws
 -- Where each rule's head and body stand.
 pub mod RuleLaws
 -- ---- the same as the code meets them
--- One field: a law for each answer of `fieldFault`.
+-- One field: a law for each answer of `field_fault`.
 pub mod FieldTests
 -- The numbers of a content, one by one.
 pub mod NumbersWalked

@@ -9,7 +9,7 @@ use borrow.Author.Tests.{lt-ltb, le-ltb, le-leb, lt-leb, eq-eqb, ne_eqb}
 use lib.ListN.{length, get_or, take, drop, length-drop}
 use lib.Seq.{drop-cons, take_all}
 use Rattle.papers.specs.Field.{number, numbers}
-use Rattle.papers.specs.Content.{abduciblesFault, literalAllowed, literalsFault, isAmong, ruleFault}
+use Rattle.papers.specs.Content.{abducibles_fault, literal_allowed, literals_fault, is_among, rule_fault}
 
 -- A part to the end.
 pub to_end : (start : ℕ) (l : List ℕ) → take (length l - start) (drop start l) ≡ drop start l
@@ -27,10 +27,10 @@ module _ (content : List ℕ) (i : ℕ) where
   no_number h = few (drop (2 * i) content) (omega (arith, length-drop (2 * i) content))
 
   -- The i-th, and those after it.
-  pub next-number : i < length content / 2
+  pub next_number : i < length content / 2
       → numbers (drop (2 * i) content) ≡ number (get_or content (2 * i) 0) (get_or content (2 * i + 1) 0) ∷ numbers (drop (2 * (i + 1)) content)
   unfolding numbers
-  next-number h =
+  next_number h =
       let high = get_or content (2 * i) 0 in
       let low : suc (2 * i) ≡ 2 * i + 1 = omega arith in
       let rest : suc (2 * i + 1) ≡ 2 * (i + 1) = omega arith in
@@ -41,54 +41,54 @@ module _ (content : List ℕ) (i : ℕ) where
   -- The same, where the i-th was read as x.
   pub read_number : i < length content / 2 → {x : ℕ} → x ≡ number (get_or content (2 * i) 0) (get_or content (2 * i + 1) 0)
       → numbers (drop (2 * i) content) ≡ x ∷ numbers (drop (2 * (i + 1)) content)
-  read_number h e = next-number h ∙ ap (λ (x : ℕ). x ∷ numbers (drop (2 * (i + 1)) content)) (sym e)
+  read_number h e = next_number h ∙ ap (λ (x : ℕ). x ∷ numbers (drop (2 * (i + 1)) content)) (sym e)
 
   module _ (n : ℕ) where
-    pub literals-done : (in_body : Bool) → length content / 2 ≤ i → literalsFault in_body n (numbers (drop (2 * i) content)) ≡ 0
-    unfolding literalsFault
-    literals-done in_body h = rw (no_number h)
+    pub literals_done : (in_body : Bool) → length content / 2 ≤ i → literals_fault in_body n (numbers (drop (2 * i) content)) ≡ 0
+    unfolding literals_fault
+    literals_done in_body h = rw (no_number h)
 
-    pub abducibles-done : (least : ℕ) → length content / 2 ≤ i → abduciblesFault n least (numbers (drop (2 * i) content)) ≡ 0
-    unfolding abduciblesFault
-    abducibles-done least h = rw (no_number h)
+    pub abducibles_done : (least : ℕ) → length content / 2 ≤ i → abducibles_fault n least (numbers (drop (2 * i) content)) ≡ 0
+    unfolding abducibles_fault
+    abducibles_done least h = rw (no_number h)
 
-    pub among-done : length content / 2 ≤ i → isAmong (numbers (drop (2 * i) content)) n ≡ false
-    unfolding isAmong
-    among-done h = rw (no_number h)
+    pub among_done : length content / 2 ≤ i → is_among (numbers (drop (2 * i) content)) n ≡ false
+    unfolding is_among
+    among_done h = rw (no_number h)
 
     -- One turn: the number that was read is the i-th.
     module _ (here : i < length content / 2) {l : ℕ} (is : l ≡ number (get_or content (2 * i) 0) (get_or content (2 * i + 1) 0)) where
       one : numbers (drop (2 * i) content) ≡ l ∷ numbers (drop (2 * (i + 1)) content)
       one = read_number here is
 
-      pub literals-stop : (in_body : Bool) → literalAllowed in_body n l ≡ false → literalsFault in_body n (numbers (drop (2 * i) content)) ≡ 6
-      unfolding literalsFault
-      literals-stop in_body h = rw (one, h)
+      pub literals_stop : (in_body : Bool) → literal_allowed in_body n l ≡ false → literals_fault in_body n (numbers (drop (2 * i) content)) ≡ 6
+      unfolding literals_fault
+      literals_stop in_body h = rw (one, h)
 
-      pub literals-next : (in_body : Bool) → literalAllowed in_body n l ≡ true
-          → literalsFault in_body n (numbers (drop (2 * i) content)) ≡ literalsFault in_body n (numbers (drop (2 * (i + 1)) content))
-      unfolding literalsFault
-      literals-next in_body h = rw (one, h)
+      pub literals_next : (in_body : Bool) → literal_allowed in_body n l ≡ true
+          → literals_fault in_body n (numbers (drop (2 * i) content)) ≡ literals_fault in_body n (numbers (drop (2 * (i + 1)) content))
+      unfolding literals_fault
+      literals_next in_body h = rw (one, h)
 
-      pub abducibles-unlisted : (least : ℕ) → n ≤ l → abduciblesFault n least (numbers (drop (2 * i) content)) ≡ 6
-      unfolding abduciblesFault
-      abducibles-unlisted least h = rw (one, le-ltb l n h)
+      pub abducibles_unlisted : (least : ℕ) → n ≤ l → abducibles_fault n least (numbers (drop (2 * i) content)) ≡ 6
+      unfolding abducibles_fault
+      abducibles_unlisted least h = rw (one, le-ltb l n h)
 
-      pub abducibles-disorder : (least : ℕ) → l < n → l < least → abduciblesFault n least (numbers (drop (2 * i) content)) ≡ 7
-      unfolding abduciblesFault
-      abducibles-disorder least h k = rw (one, lt-ltb l n h, lt-leb least l k)
+      pub abducibles_disorder : (least : ℕ) → l < n → l < least → abducibles_fault n least (numbers (drop (2 * i) content)) ≡ 7
+      unfolding abducibles_fault
+      abducibles_disorder least h k = rw (one, lt-ltb l n h, lt-leb least l k)
 
-      pub abducibles-next : (least : ℕ) → l < n → least ≤ l
-          → abduciblesFault n least (numbers (drop (2 * i) content)) ≡ abduciblesFault n (l + 1) (numbers (drop (2 * (i + 1)) content))
-      unfolding abduciblesFault
-      abducibles-next least h k = rw (one, lt-ltb l n h, le-leb least l k)
+      pub abducibles_next : (least : ℕ) → l < n → least ≤ l
+          → abducibles_fault n least (numbers (drop (2 * i) content)) ≡ abducibles_fault n (l + 1) (numbers (drop (2 * (i + 1)) content))
+      unfolding abducibles_fault
+      abducibles_next least h k = rw (one, lt-ltb l n h, le-leb least l k)
 
-      pub among-stop : l ≡ n → isAmong (numbers (drop (2 * i) content)) n ≡ true
-      unfolding isAmong
-      among-stop h = rw (one, eq-eqb l n h)
+      pub among_stop : l ≡ n → is_among (numbers (drop (2 * i) content)) n ≡ true
+      unfolding is_among
+      among_stop h = rw (one, eq-eqb l n h)
 
-      pub among_next : (l ≡ n → ⊥) → isAmong (numbers (drop (2 * i) content)) n ≡ isAmong (numbers (drop (2 * (i + 1)) content)) n
-      unfolding isAmong
+      pub among_next : (l ≡ n → ⊥) → is_among (numbers (drop (2 * i) content)) n ≡ is_among (numbers (drop (2 * (i + 1)) content)) n
+      unfolding is_among
       among_next h = rw (one, ne_eqb l n h)
 
 -- A rule's content: its head is the first number, its body the others.
@@ -96,26 +96,26 @@ module _ (n : ℕ) (abducibles content : List ℕ) (whole : 1 < length content) 
   headed : numbers content ≡ head ∷ numbers (drop 2 content)
   headed = one content 0 n (omega arith) is
 
-  pub rule-unlisted : 2 * n ≤ head → ruleFault n abducibles (numbers content) ≡ 6
-  unfolding ruleFault
-  rule-unlisted h = rw (headed, le-ltb head (2 * n) h)
+  pub rule_unlisted : 2 * n ≤ head → rule_fault n abducibles (numbers content) ≡ 6
+  unfolding rule_fault
+  rule_unlisted h = rw (headed, le-ltb head (2 * n) h)
 
-  pub rule-fixed : head < 2 * n → isAmong abducibles (head / 2) ≡ true → ruleFault n abducibles (numbers content) ≡ 8
-  unfolding ruleFault
-  rule-fixed h a = rw (headed, lt-ltb head (2 * n) h, a)
+  pub rule_fixed : head < 2 * n → is_among abducibles (head / 2) ≡ true → rule_fault n abducibles (numbers content) ≡ 8
+  unfolding rule_fault
+  rule_fixed h a = rw (headed, lt-ltb head (2 * n) h, a)
 
-  pub rule-body : head < 2 * n → isAmong abducibles (head / 2) ≡ false
-      → ruleFault n abducibles (numbers content) ≡ literalsFault true n (numbers (drop 2 content))
-  unfolding ruleFault
-  rule-body h a = rw (headed, lt-ltb head (2 * n) h, a)
+  pub rule_body : head < 2 * n → is_among abducibles (head / 2) ≡ false
+      → rule_fault n abducibles (numbers content) ≡ literals_fault true n (numbers (drop 2 content))
+  unfolding rule_fault
+  rule_body h a = rw (headed, lt-ltb head (2 * n) h, a)
 
 -- The first of a content's numbers.
-pub first-number : (content : List ℕ) → 1 < length content → {l : ℕ} → l ≡ number (get_or content 0 0) (get_or content 1 0) → get_or (numbers content) 0 0 ≡ l
-first-number content whole is = rw (one content 0 0 (omega arith) is)
+pub first_number : (content : List ℕ) → 1 < length content → {l : ℕ} → l ≡ number (get_or content 0 0) (get_or content 1 0) → get_or (numbers content) 0 0 ≡ l
+first_number content whole is = rw (one content 0 0 (omega arith) is)
 
 -- How many they are.
-pub count-numbers : (content : List ℕ) → length (numbers content) ≡ length content / 2
+pub count_numbers : (content : List ℕ) → length (numbers content) ≡ length content / 2
 unfolding numbers
-count-numbers [] = refl
-count-numbers (b ∷ []) = refl
-count-numbers (high ∷ low ∷ rest) = let e = count-numbers rest in omega arith
+count_numbers [] = refl
+count_numbers (b ∷ []) = refl
+count_numbers (high ∷ low ∷ rest) = let e = count_numbers rest in omega arith

@@ -19,20 +19,20 @@ use Rattle.papers.specs.declared.PapersRead.TheVariants as papers
 use Rattle.papers.specs.Program.{Program}
 use Rattle.papers.specs.Outcome.{Outcome, accepted, refused}
 use Rattle.papers.specs.Reading.{Run, Papers}
-use Rattle.papers.specs.Answers.{numberAnswer, countAnswer, runAnswer, contentsOf, fileAnswer, papersAnswer}
+use Rattle.papers.specs.Answers.{number_answer, count_answer, run_answer, contents_of, file_answer, papers_answer}
 
 -- ---- a number
 
-module _ (o : Outcome ℕ) {got : NumberRead} (is : got ≡ numberAnswer o) where
-  pub number-accepted : {v : ℕ} → got ≡ number.Number v → o ≡ accepted v
-  number-accepted {v} e = by o (sym is ∙ e) where
-    by : (x : Outcome ℕ) → numberAnswer x ≡ number.Number v → x ≡ accepted v
+module _ (o : Outcome ℕ) {got : NumberRead} (is : got ≡ number_answer o) where
+  pub number_accepted : {v : ℕ} → got ≡ number.Number v → o ≡ accepted v
+  number_accepted {v} e = by o (sym is ∙ e) where
+    by : (x : Outcome ℕ) → number_answer x ≡ number.Number v → x ≡ accepted v
     by (accepted n) h = let z : n ≡ v = cc in ap accepted z
     by (refused r) h = absurd (true≢false cc)
 
-  pub number-refused : {r : Refusal} → got ≡ number.Refused r → o ≡ refused r
-  number-refused {r} e = by o (sym is ∙ e) where
-    by : (x : Outcome ℕ) → numberAnswer x ≡ number.Refused r → x ≡ refused r
+  pub number_refused : {r : Refusal} → got ≡ number.Refused r → o ≡ refused r
+  number_refused {r} e = by o (sym is ∙ e) where
+    by : (x : Outcome ℕ) → number_answer x ≡ number.Refused r → x ≡ refused r
     by (accepted n) h = absurd (true≢false cc)
     by (refused q) h = let z : q ≡ r = cc in ap refused z
 
@@ -43,16 +43,16 @@ pub record Listed (o : Outcome (List ℕ)) (count : ℕ) : Type 0 where
   pub is : o ≡ accepted list
   pub size : length list ≡ count
 
-module _ (o : Outcome (List ℕ)) {got : NumberRead} (is : got ≡ countAnswer o) where
-  pub count-accepted : {k : ℕ} → got ≡ number.Number k → Listed o k
-  count-accepted {k} e = by o refl (sym is ∙ e) where
-    by : (x : Outcome (List ℕ)) → o ≡ x → countAnswer x ≡ number.Number k → Listed o k
+module _ (o : Outcome (List ℕ)) {got : NumberRead} (is : got ≡ count_answer o) where
+  pub count_accepted : {k : ℕ} → got ≡ number.Number k → Listed o k
+  count_accepted {k} e = by o refl (sym is ∙ e) where
+    by : (x : Outcome (List ℕ)) → o ≡ x → count_answer x ≡ number.Number k → Listed o k
     by (accepted l) q h = record { list = l; is = q; size = cc }
     by (refused r) q h = absurd (true≢false cc)
 
-  pub count-refused : {r : Refusal} → got ≡ number.Refused r → o ≡ refused r
-  count-refused {r} e = by o (sym is ∙ e) where
-    by : (x : Outcome (List ℕ)) → countAnswer x ≡ number.Refused r → x ≡ refused r
+  pub count_refused : {r : Refusal} → got ≡ number.Refused r → o ≡ refused r
+  count_refused {r} e = by o (sym is ∙ e) where
+    by : (x : Outcome (List ℕ)) → count_answer x ≡ number.Refused r → x ≡ refused r
     by (accepted n) h = absurd (true≢false cc)
     by (refused q) h = let z : q ≡ r = cc in ap refused z
 
@@ -64,16 +64,16 @@ pub record Ran (o : Outcome Run) (count next : ℕ) : Type 0 where
   pub size : length (run).contents ≡ count
   pub ends : (run).next ≡ next
 
-module _ (o : Outcome Run) {got : RunRead} (is : got ≡ runAnswer 0 o) where
-  pub run-accepted : {count next : ℕ} → got ≡ run.Run count next → Ran o count next
-  run-accepted {count} {next} e = by o refl (sym is ∙ e) where
-    by : (x : Outcome Run) → o ≡ x → runAnswer 0 x ≡ run.Run count next → Ran o count next
+module _ (o : Outcome Run) {got : RunRead} (is : got ≡ run_answer 0 o) where
+  pub run_accepted : {count next : ℕ} → got ≡ run.Run count next → Ran o count next
+  run_accepted {count} {next} e = by o refl (sym is ∙ e) where
+    by : (x : Outcome Run) → o ≡ x → run_answer 0 x ≡ run.Run count next → Ran o count next
     by (accepted r) q h = let z : 0 + length r.contents ≡ count = cc in record { run = r; is = q; size = omega arith; ends = cc }
     by (refused r) q h = absurd (true≢false cc)
 
-  pub run-not : {r : Refusal} → got ≡ run.Refused r → o ≡ refused r
-  run-not {r} e = by o (sym is ∙ e) where
-    by : (x : Outcome Run) → runAnswer 0 x ≡ run.Refused r → x ≡ refused r
+  pub run_not : {r : Refusal} → got ≡ run.Refused r → o ≡ refused r
+  run_not {r} e = by o (sym is ∙ e) where
+    by : (x : Outcome Run) → run_answer 0 x ≡ run.Refused r → x ≡ refused r
     by (accepted n) h = absurd (true≢false cc)
     by (refused q) h = let z : q ≡ r = cc in ap refused z
 
@@ -82,18 +82,18 @@ module _ (o : Outcome Run) {got : RunRead} (is : got ≡ runAnswer 0 o) where
 pub record Filed (o : Outcome Program) (contents : Contents) : Type 0 where
   pub program : Program
   pub is : o ≡ accepted program
-  pub told : contentsOf program ≡ contents
+  pub told : contents_of program ≡ contents
 
-module _ (o : Outcome Program) {got : FileRead} (is : got ≡ fileAnswer o) where
-  pub file-accepted : {contents : Contents} → got ≡ file.Accepted contents → Filed o contents
-  file-accepted {contents} e = by o refl (sym is ∙ e) where
-    by : (x : Outcome Program) → o ≡ x → fileAnswer x ≡ file.Accepted contents → Filed o contents
+module _ (o : Outcome Program) {got : FileRead} (is : got ≡ file_answer o) where
+  pub file_accepted : {contents : Contents} → got ≡ file.Accepted contents → Filed o contents
+  file_accepted {contents} e = by o refl (sym is ∙ e) where
+    by : (x : Outcome Program) → o ≡ x → file_answer x ≡ file.Accepted contents → Filed o contents
     by (accepted p) q h = record { program = p; is = q; told = cc }
     by (refused r) q h = absurd (true≢false cc)
 
-  pub file-refused : {r : Refusal} → got ≡ file.Refused r → o ≡ refused r
-  file-refused {r} e = by o (sym is ∙ e) where
-    by : (x : Outcome Program) → fileAnswer x ≡ file.Refused r → x ≡ refused r
+  pub file_refused : {r : Refusal} → got ≡ file.Refused r → o ≡ refused r
+  file_refused {r} e = by o (sym is ∙ e) where
+    by : (x : Outcome Program) → file_answer x ≡ file.Refused r → x ≡ refused r
     by (accepted n) h = absurd (true≢false cc)
     by (refused q) h = let z : q ≡ r = cc in ap refused z
 
@@ -102,18 +102,18 @@ module _ (o : Outcome Program) {got : FileRead} (is : got ≡ fileAnswer o) wher
 pub record Paired (o : Outcome Papers) (contents : Contents) (literals : ℕ) : Type 0 where
   pub papers : Papers
   pub is : o ≡ accepted papers
-  pub told : contentsOf (papers).program ≡ contents
+  pub told : contents_of (papers).program ≡ contents
   pub size : length (papers).query ≡ literals
 
-module _ (o : Outcome Papers) {got : PapersRead} (is : got ≡ papersAnswer o) where
-  pub papers-accepted : {contents : Contents} {literals : ℕ} → got ≡ papers.Accepted contents literals → Paired o contents literals
-  papers-accepted {contents} {literals} e = by o refl (sym is ∙ e) where
-    by : (x : Outcome Papers) → o ≡ x → papersAnswer x ≡ papers.Accepted contents literals → Paired o contents literals
+module _ (o : Outcome Papers) {got : PapersRead} (is : got ≡ papers_answer o) where
+  pub papers_accepted : {contents : Contents} {literals : ℕ} → got ≡ papers.Accepted contents literals → Paired o contents literals
+  papers_accepted {contents} {literals} e = by o refl (sym is ∙ e) where
+    by : (x : Outcome Papers) → o ≡ x → papers_answer x ≡ papers.Accepted contents literals → Paired o contents literals
     by (accepted p) q h = record { papers = p; is = q; told = cc; size = cc }
     by (refused r) q h = absurd (true≢false cc)
 
-  pub papers-refused : {r : Refusal} → got ≡ papers.Refused r → o ≡ refused r
-  papers-refused {r} e = by o (sym is ∙ e) where
-    by : (x : Outcome Papers) → papersAnswer x ≡ papers.Refused r → x ≡ refused r
+  pub papers_refused : {r : Refusal} → got ≡ papers.Refused r → o ≡ refused r
+  papers_refused {r} e = by o (sym is ∙ e) where
+    by : (x : Outcome Papers) → papers_answer x ≡ papers.Refused r → x ≡ refused r
     by (accepted n) h = absurd (true≢false cc)
     by (refused q) h = let z : q ≡ r = cc in ap refused z

@@ -10,14 +10,14 @@ use lib.Dec.{eqb}
 use lib.ListN.{length, get_or, drop}
 use Rattle.papers.specs.declared.Paper.TheVariants.{File}
 use Rattle.papers.specs.Outcome.{Outcome, accepted, passing, and_then}
-use Rattle.papers.specs.Field.{numbers, lengthAllowed, readField}
-use Rattle.papers.specs.Content.{bodyFault}
-use Rattle.papers.specs.Reading.{Run, run_from, oneMore, readRun}
+use Rattle.papers.specs.Field.{numbers, length_allowed, read_field}
+use Rattle.papers.specs.Content.{body_fault}
+use Rattle.papers.specs.Reading.{Run, run_from, one_more, read_run}
 use Rattle.papers.specs.Valid.{All, none, each}
-use Rattle.papers.specs.Answers.{fieldsLength}
+use Rattle.papers.specs.Answers.{fields_length}
 use Rattle.papers.proofs.Checks.{passed, through}
-use Rattle.papers.proofs.FieldLaws.{Whole, field-tells, allowed-even}
-use Rattle.papers.proofs.NumberLaws.{length-numbers}
+use Rattle.papers.proofs.FieldLaws.{Whole, field_tells, allowed_even}
+use Rattle.papers.proofs.NumberLaws.{length_numbers}
 
 -- ---- the fields that were read, one by one
 
@@ -26,8 +26,8 @@ use Rattle.papers.proofs.NumberLaws.{length-numbers}
 pub data RunReads (tag n : ℕ) (abducibles bytes : List ℕ) : ℕ → ℕ → Run → Type 0 where
   ended : {room place : ℕ} → (get_or (drop place bytes) 0 0 ≡ tag → ⊥) → RunReads tag n abducibles bytes room place (run_from [] place)
   further : {room place : ℕ} {content : List ℕ} {run : Run} → Whole tag false place bytes content
-      → bodyFault tag n abducibles (numbers content) ≡ 0 → RunReads tag n abducibles bytes room (place + 3 + length content) run
-      → RunReads tag n abducibles bytes (suc room) place (oneMore (numbers content) run)
+      → body_fault tag n abducibles (numbers content) ≡ 0 → RunReads tag n abducibles bytes room (place + 3 + length content) run
+      → RunReads tag n abducibles bytes (suc room) place (one_more (numbers content) run)
 
 module _ (tag n : ℕ) (abducibles bytes : List ℕ) where
   ended_at : (room place : ℕ) (run : Run) → eqb (get_or (drop place bytes) 0 0) tag ≡ false
@@ -37,70 +37,70 @@ module _ (tag n : ℕ) (abducibles bytes : List ℕ) where
       let here : RunReads tag n abducibles bytes room place (run_from [] place) = ended (eqb-false _ _ t) in
       rw q at here
 
-  pub run-reads : (room place : ℕ) (run : Run) → readRun tag n abducibles room place bytes ≡ accepted run
+  pub run_reads : (room place : ℕ) (run : Run) → read_run tag n abducibles room place bytes ≡ accepted run
       → RunReads tag n abducibles bytes room place run
-  unfolding readRun
-  run-reads zero place run e = go (eqb (get_or (drop place bytes) 0 0) tag) refl e where
+  unfolding read_run
+  run_reads zero place run e = go (eqb (get_or (drop place bytes) 0 0) tag) refl e where
     none_more : List ℕ → Outcome Run
     none_more content = accepted (run_from [] place)
 
     go : (b : Bool) → eqb (get_or (drop place bytes) 0 0) tag ≡ b
-        → cond b (and_then (readField File tag true place bytes) none_more) (accepted (run_from [] place)) ≡ accepted run
+        → cond b (and_then (read_field File tag true place bytes) none_more) (accepted (run_from [] place)) ≡ accepted run
         → RunReads tag n abducibles bytes zero place run
     go true t e =
-        let f = through (readField File tag true place bytes) none_more e in
-        let field = field-tells File tag true place bytes _ f.first in
+        let f = through (read_field File tag true place bytes) none_more e in
+        let field = field_tells File tag true place bytes _ f.first in
         let full : true ≡ false = field.room in
         absurd (true≢false cc)
     go false t e = ended_at zero place run t e
-  run-reads (suc room) place run e = go (run-reads room) (eqb (get_or (drop place bytes) 0 0) tag) refl e where
+  run_reads (suc room) place run e = go (run_reads room) (eqb (get_or (drop place bytes) 0 0) tag) refl e where
     after : List ℕ → Outcome Run
     after content =
-        passing (bodyFault tag n abducibles (numbers content)) File place
-        (and_then (readRun tag n abducibles room (place + 3 + length content) bytes) (λ run. accepted (oneMore (numbers content) run)))
+        passing (body_fault tag n abducibles (numbers content)) File place
+        (and_then (read_run tag n abducibles room (place + 3 + length content) bytes) (λ run. accepted (one_more (numbers content) run)))
 
-    go : ((at : ℕ) (last : Run) → readRun tag n abducibles room at bytes ≡ accepted last → RunReads tag n abducibles bytes room at last)
+    go : ((at : ℕ) (last : Run) → read_run tag n abducibles room at bytes ≡ accepted last → RunReads tag n abducibles bytes room at last)
         → (b : Bool) → eqb (get_or (drop place bytes) 0 0) tag ≡ b
-        → cond b (and_then (readField File tag false place bytes) after) (accepted (run_from [] place)) ≡ accepted run
+        → cond b (and_then (read_field File tag false place bytes) after) (accepted (run_from [] place)) ≡ accepted run
         → RunReads tag n abducibles bytes (suc room) place run
     go ih false t e = ended_at (suc room) place run t e
     go ih true t e =
-        let f = through (readField File tag false place bytes) after e in
-        let p = passed (bodyFault tag n abducibles (numbers f.value)) File place _ f.after in
-        let r = through (readRun tag n abducibles room (place + 3 + length f.value) bytes) _ p.1 in
-        let q : oneMore (numbers f.value) r.value ≡ run = cc in
-        rw q at (further (field-tells File tag false place bytes _ f.first) p.0 (ih _ r.value r.first))
+        let f = through (read_field File tag false place bytes) after e in
+        let p = passed (body_fault tag n abducibles (numbers f.value)) File place _ f.after in
+        let r = through (read_run tag n abducibles room (place + 3 + length f.value) bytes) _ p.1 in
+        let q : one_more (numbers f.value) r.value ≡ run = cc in
+        rw q at (further (field_tells File tag false place bytes _ f.first) p.0 (ih _ r.value r.first))
 
 -- ---- what they tell together
 
 -- The numbers of a rule or an integrity rule that passed its tests.
 pub record GoodContent (tag n : ℕ) (abducibles content : List ℕ) : Type 0 where
-  pub fault : bodyFault tag n abducibles content ≡ 0
-  pub allowed : lengthAllowed tag (2 * length content) ≡ true
+  pub fault : body_fault tag n abducibles content ≡ 0
+  pub allowed : length_allowed tag (2 * length content) ≡ true
 
 pub record RunTells (tag n : ℕ) (abducibles : List ℕ) (room place : ℕ) (bytes : List ℕ) (run : Run) : Type 0 where
-  pub next-is : run.next ≡ place + fieldsLength run.contents
+  pub next_is : run.next ≡ place + fields_length run.contents
   pub within : run.next ≤ length bytes
   pub few : length run.contents ≤ room
   pub bodies : All (GoodContent tag n abducibles) run.contents
   pub stops : get_or (drop run.next bytes) 0 0 ≡ tag → ⊥
 
-pub reads-tell : {tag n : ℕ} {abducibles : List ℕ} {room place : ℕ} {bytes : List ℕ} {run : Run} → (tag ≡ 1 → ⊥)
+pub reads_tell : {tag n : ℕ} {abducibles : List ℕ} {room place : ℕ} {bytes : List ℕ} {run : Run} → (tag ≡ 1 → ⊥)
     → place ≤ length bytes → RunReads tag n abducibles bytes room place run → RunTells tag n abducibles room place bytes run
-unfolding fieldsLength
-reads-tell h w (ended stop) = record { next-is = omega arith; within = w; few = omega arith; bodies = none; stops = stop }
-reads-tell {tag} h w (further {content} {run} field fault more) =
-    let l : 2 * length (numbers content) ≡ length content = length-numbers content (allowed-even tag _ h field.allowed) in
-    let after = reads-tell h field.within more in
+unfolding fields_length
+reads_tell h w (ended stop) = record { next_is = omega arith; within = w; few = omega arith; bodies = none; stops = stop }
+reads_tell {tag} h w (further {content} {run} field fault more) =
+    let l : 2 * length (numbers content) ≡ length content = length_numbers content (allowed_even tag _ h field.allowed) in
+    let after = reads_tell h field.within more in
     record {
-      next-is = omega arith;
+      next_is = omega arith;
       within = after.within;
       few = omega arith;
       bodies = each (record { fault = fault; allowed = rw l field.allowed }) after.bodies;
       stops = after.stops;
     }
 
-pub run-tells : (tag n : ℕ) (abducibles : List ℕ) (room place : ℕ) (bytes : List ℕ) (run : Run) → (tag ≡ 1 → ⊥)
-    → place ≤ length bytes → readRun tag n abducibles room place bytes ≡ accepted run
+pub run_tells : (tag n : ℕ) (abducibles : List ℕ) (room place : ℕ) (bytes : List ℕ) (run : Run) → (tag ≡ 1 → ⊥)
+    → place ≤ length bytes → read_run tag n abducibles room place bytes ≡ accepted run
     → RunTells tag n abducibles room place bytes run
-run-tells tag n abducibles room place bytes run h w e = reads-tell h w (run-reads tag n abducibles bytes room place run e)
+run_tells tag n abducibles room place bytes run h w e = reads_tell h w (run_reads tag n abducibles bytes room place run e)

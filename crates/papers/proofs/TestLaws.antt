@@ -29,10 +29,10 @@ unfolding ◌or◌
 either_left true b h = tt
 either_left false b h = absurd h
 
-pub either-right : (a b : Bool) → T b → T (a or b)
+pub either_right : (a b : Bool) → T b → T (a or b)
 unfolding ◌or◌
-either-right true b h = tt
-either-right false b h = h
+either_right true b h = tt
+either_right false b h = h
 
 pub either : (a b : Bool) → T (a or b) → T a ⊎ T b
 unfolding ◌or◌
@@ -50,7 +50,7 @@ neither false b e = (refl, e)
 
 -- A test that holds wherever another does.
 pub or_mono : (a b a' b' : Bool) → (T a → T a') → (T b → T b') → T (a or b) → T (a' or b')
-or_mono a b a' b' f g h = ⊎_elim (λ x. either_left _ _ (f x)) (λ y. either-right _ _ (g y)) (either _ _ h)
+or_mono a b a' b' f g h = ⊎_elim (λ x. either_left _ _ (f x)) (λ y. either_right _ _ (g y)) (either _ _ h)
 
 pub and_mono : (a b a' b' : Bool) → (T a → T a') → (T b → T b') → T (a and b) → T (a' and b')
 and_mono a b a' b' f g h = both _ _ (f (left _ _ h)) (g (right _ _ h))
@@ -83,30 +83,30 @@ not_equal a b h = not_T (eqb a b) (λ t. h (eqb→eq a b t))
 
 -- ---- equations
 
-pub not-and : (a b : Bool) → not (a and b) ≡ (not a or not b)
+pub not_and : (a b : Bool) → not (a and b) ≡ (not a or not b)
 unfolding ◌and◌ ◌or◌
-not-and true b = refl
-not-and false b = refl
+not_and true b = refl
+not_and false b = refl
 
-pub not-or : (a b : Bool) → not (a or b) ≡ (not a and not b)
+pub not_or : (a b : Bool) → not (a or b) ≡ (not a and not b)
 unfolding ◌and◌ ◌or◌
-not-or true b = refl
-not-or false b = refl
+not_or true b = refl
+not_or false b = refl
 
-pub or-true : (b : Bool) → (b or true) ≡ true
+pub or_true : (b : Bool) → (b or true) ≡ true
 unfolding ◌or◌
-or-true true = refl
-or-true false = refl
+or_true true = refl
+or_true false = refl
 
-pub or-false : (b : Bool) → (b or false) ≡ b
+pub or_false : (b : Bool) → (b or false) ≡ b
 unfolding ◌or◌
-or-false true = refl
-or-false false = refl
+or_false true = refl
+or_false false = refl
 
-pub and-true : (b : Bool) → (b and true) ≡ b
+pub and_true : (b : Bool) → (b and true) ≡ b
 unfolding ◌and◌
-and-true true = refl
-and-true false = refl
+and_true true = refl
+and_true false = refl
 
 pub and_assoc : (a b c : Bool) → ((a and b) and c) ≡ (a and (b and c))
 unfolding ◌and◌
@@ -118,21 +118,21 @@ unfolding ◌or◌
 or_assoc true b c = refl
 or_assoc false b c = refl
 
-pub true-or : (b : Bool) → (true or b) ≡ true
+pub true_or : (b : Bool) → (true or b) ≡ true
 unfolding ◌or◌
-true-or b = refl
+true_or b = refl
 
-pub false-or : (b : Bool) → (false or b) ≡ b
+pub false_or : (b : Bool) → (false or b) ≡ b
 unfolding ◌or◌
-false-or b = refl
+false_or b = refl
 
-pub false-and : (b : Bool) → (false and b) ≡ false
+pub false_and : (b : Bool) → (false and b) ≡ false
 unfolding ◌and◌
-false-and b = refl
+false_and b = refl
 
-pub true-and : (b : Bool) → (true and b) ≡ b
+pub true_and : (b : Bool) → (true and b) ≡ b
 unfolding ◌and◌
-true-and b = refl
+true_and b = refl
 
 pub unless : (a b : Bool) → (a or not b) ≡ not (not a and b)
 unfolding ◌and◌ ◌or◌

@@ -7,11 +7,11 @@ use Prim.Native.Nat.{ℕ, ◌+◌, ◌*◌, ◌/◌, ◌%◌, ◌≤◌, ◌<◌
 use native.Mathlib.Omega.{arith}
 use lib.ListN.{length, get_or, drop, length-drop, take-append-drop}
 use lib.Seq.{drop-drop}
-use Rattle.papers.specs.Field.{numbers, size_of, lengthAllowed}
+use Rattle.papers.specs.Field.{numbers, size_of, length_allowed}
 use Rattle.papers.specs.Reading.{Run}
-use Rattle.papers.specs.Encoding.{encodeNumbers, encodeField, encodeRun}
-use Rattle.papers.proofs.FieldLaws.{Whole, allowed-even}
-use Rattle.papers.proofs.NumberLaws.{Bytes, bytes_drop, bytes_take, length-numbers, encoded-numbers}
+use Rattle.papers.specs.Encoding.{encode_numbers, encode_field, encode_run}
+use Rattle.papers.proofs.FieldLaws.{Whole, allowed_even}
+use Rattle.papers.proofs.NumberLaws.{Bytes, bytes_drop, bytes_take, length_numbers, encoded_numbers}
 use Rattle.papers.proofs.RunLaws.{RunReads, ended, further}
 
 -- ---- one field
@@ -30,12 +30,12 @@ heading (tag ∷ high ∷ low ∷ rest) w h =
     cc
 
 module _ {tag place : ℕ} {full : Bool} {bytes content : List ℕ} (field : Whole tag full place bytes content) where
-  pub field-written : Bytes bytes → drop place bytes ≡ encodeField tag content ++ drop (place + 3 + length content) bytes
-  unfolding encodeField
-  field-written h =
+  pub field_written : Bytes bytes → drop place bytes ≡ encode_field tag content ++ drop (place + 3 + length content) bytes
+  unfolding encode_field
+  field_written h =
       let l = length-drop place bytes in
       let parts = take-append-drop (length content) (drop (place + 3) bytes) in
-      let c = field.content-is in
+      let c = field.content_is in
       let later = drop-drop (length content) (place + 3) bytes in
       let whole = heading (drop place bytes) (omega arith) (bytes_drop place bytes h) in
       let three = drop-drop 3 place bytes in
@@ -45,30 +45,30 @@ module _ {tag place : ℕ} {full : Bool} {bytes content : List ℕ} (field : Who
 
 -- What a field of numbers tells. Every field but the edition is one.
 pub record Holds (tag place : ℕ) (bytes ns : List ℕ) : Type 0 where
-  pub allowed : lengthAllowed tag (2 * length ns) ≡ true
+  pub allowed : length_allowed tag (2 * length ns) ≡ true
   pub within : place + 3 + 2 * length ns ≤ length bytes
-  pub written : Bytes bytes → drop place bytes ≡ encodeField tag (encodeNumbers ns) ++ drop (place + 3 + 2 * length ns) bytes
+  pub written : Bytes bytes → drop place bytes ≡ encode_field tag (encode_numbers ns) ++ drop (place + 3 + 2 * length ns) bytes
 
-pub field-holds : {tag place : ℕ} {full : Bool} {bytes content : List ℕ} → (tag ≡ 1 → ⊥) → Whole tag full place bytes content
+pub field_holds : {tag place : ℕ} {full : Bool} {bytes content : List ℕ} → (tag ≡ 1 → ⊥) → Whole tag full place bytes content
     → Holds tag place bytes (numbers content)
-field-holds {tag} {place} {full} {bytes} {content} h field =
-    let even = allowed-even tag _ h field.allowed in
-    let l : 2 * length (numbers content) ≡ length content = length-numbers content even in
+field_holds {tag} {place} {full} {bytes} {content} h field =
+    let even = allowed_even tag _ h field.allowed in
+    let l : 2 * length (numbers content) ≡ length content = length_numbers content even in
     record {
       allowed = rw l field.allowed;
       within = omega arith;
       written = λ b.
-          let c : Bytes content = rw field.content-is (bytes_take (length content) (drop (place + 3) bytes) (bytes_drop (place + 3) bytes b)) in
-          rw (encoded-numbers content even c, l) (field-written field b);
+          let c : Bytes content = rw field.content_is (bytes_take (length content) (drop (place + 3) bytes) (bytes_drop (place + 3) bytes b)) in
+          rw (encoded_numbers content even c, l) (field_written field b);
     }
 
 -- ---- a run of fields
 
-pub run-written : {tag n : ℕ} {abducibles : List ℕ} {room place : ℕ} {bytes : List ℕ} {run : Run} → (tag ≡ 1 → ⊥) → Bytes bytes
-    → RunReads tag n abducibles bytes room place run → drop place bytes ≡ encodeRun tag run.contents ++ drop run.next bytes
-unfolding encodeRun
-run-written h b (ended stop) = refl
-run-written {tag} h b (further {content} field fault more) =
-    let here = field-holds h field in
-    let l : 2 * length (numbers content) ≡ length content = length-numbers content (allowed-even tag _ h field.allowed) in
-    rw (here.written b, l, run-written h b more, append_assoc)
+pub run_written : {tag n : ℕ} {abducibles : List ℕ} {room place : ℕ} {bytes : List ℕ} {run : Run} → (tag ≡ 1 → ⊥) → Bytes bytes
+    → RunReads tag n abducibles bytes room place run → drop place bytes ≡ encode_run tag run.contents ++ drop run.next bytes
+unfolding encode_run
+run_written h b (ended stop) = refl
+run_written {tag} h b (further {content} field fault more) =
+    let here = field_holds h field in
+    let l : 2 * length (numbers content) ≡ length content = length_numbers content (allowed_even tag _ h field.allowed) in
+    rw (here.written b, l, run_written h b more, append_assoc)

@@ -2,7 +2,7 @@
 use Rattle.std.specs.Prelude.{List, [], ◌++◌, map, ℕ, get_or}
 use Rattle.literals.specs.Numbering.{falsum}
 
--- A rule: its head, an objective literal, and its body literals, by the numbers that stand in the file (`bodyLiteral` says what each is).
+-- A rule: its head, an objective literal, and its body literals, by the numbers that stand in the file (`body_literal` says what each is).
 pub record Rule : Type 0 where
   pub head : ℕ
   pub body : List ℕ
@@ -23,13 +23,13 @@ abbrev pub denial : ℕ → List ℕ → Rule
 denial n body = record { head = falsum n; body = body }
 
 -- "Rules have fold numbers from 0 in file order; integrity rules go on from there": a fold number is an index here.
-unfoldable pub allRules : Program → List Rule
-allRules p = p.rules ++ map (denial p.atoms) p.integrity
+unfoldable pub all_rules : Program → List Rule
+all_rules p = p.rules ++ map (denial p.atoms) p.integrity
 
 -- What stands past the last rule.
-abbrev pub noRule : Rule
-noRule = record { head = 0; body = [] }
+abbrev pub no_rule : Rule
+no_rule = record { head = 0; body = [] }
 
 -- The rule with this fold number.
-abbrev pub ruleAt : Program → ℕ → Rule
-ruleAt p fold = get_or (allRules p) fold noRule
+abbrev pub rule_at : Program → ℕ → Rule
+rule_at p fold = get_or (all_rules p) fold no_rule

@@ -1,8 +1,8 @@
 -- The programs and queries that document 01 allows: all its limits.
 use Rattle.std.specs.Prelude.{◌≡◌, false, ◌⊎◌, List, [], ◌∷◌, ℕ, ◌+◌, ◌*◌, ◌≤◌, ◌<◌, length}
-use Rattle.literals.specs.Numbering.{atomNumber, falsum}
+use Rattle.literals.specs.Numbering.{atom_number, falsum}
 use Rattle.papers.specs.Program.{Rule, Program}
-use Rattle.papers.specs.Content.{isAmong}
+use Rattle.papers.specs.Content.{is_among}
 
 -- Every element has a property.
 pub data All {A : Type 0} (P : A → Type 0) : List A → Type 0 where
@@ -33,16 +33,16 @@ ValidBody n = UpTo16 (InBody n)
 -- A rule: a head below falsum, 2n, that is no abducible or its negation, and a body.
 pub record ValidRule (n : ℕ) (abducibles : List ℕ) (r : Rule) : Type 0 where
   pub listed : r.head < falsum n
-  pub free : isAmong abducibles (atomNumber r.head) ≡ false
+  pub free : is_among abducibles (atom_number r.head) ≡ false
   pub body : ValidBody n r.body
 
 pub record Valid (p : Program) : Type 0 where
-  pub someAtoms : 1 ≤ p.atoms
-  pub fewAtoms : p.atoms ≤ 256
-  pub fewAbducibles : length p.abducibles ≤ 16
-  pub abduciblesListed : All (◌< p.atoms) p.abducibles
-  pub abduciblesRising : Rising 0 p.abducibles
-  pub fewRules : length p.rules ≤ 1024
+  pub some_atoms : 1 ≤ p.atoms
+  pub few_atoms : p.atoms ≤ 256
+  pub few_abducibles : length p.abducibles ≤ 16
+  pub abducibles_listed : All (◌< p.atoms) p.abducibles
+  pub abducibles_rising : Rising 0 p.abducibles
+  pub few_rules : length p.rules ≤ 1024
   pub rules : All (ValidRule p.atoms p.abducibles) p.rules
-  pub fewIntegrity : length p.integrity ≤ 256
+  pub few_integrity : length p.integrity ≤ 256
   pub integrity : All (ValidBody p.atoms) p.integrity

@@ -1,7 +1,7 @@
 // What is read of the two papers, and what refuses a call. The definitions of reading stand in specs/, their laws in proofs/; the
 // functions that read are in the crates numbered, fields, content, reading, rest and folds.
 ghost use Rattle.std.specs.Prelude.{◌≡◌};
-ghost use Rattle.papers.specs.Told.{bareNumber};
+ghost use Rattle.papers.specs.Told.{bare_number};
 
 #[derive(Drop)]
 pub enum Paper {
@@ -30,7 +30,7 @@ pub enum Bare {
 
 // Their numbers.
 pub fn bare_number(bare: Bare) -> u8
-    ensures { result ≡ bareNumber bare }
+    ensures { result ≡ bare_number bare }
 {
     match bare {
         Bare::ShortDual => 11,

@@ -5,14 +5,14 @@ use Rattle.arrays.specs.Staying.{StaysFrom}
 -- ---- marks
 
 -- A visit says where its row starts, and by 32,768 more that a part ends with it.
-unfoldable pub placeOf : ℕ → ℕ
-placeOf visit = visit % 32768
+unfoldable pub place_of : ℕ → ℕ
+place_of visit = visit % 32768
 
-unfoldable pub endsPart : ℕ → Bool
-endsPart visit = leb 32768 visit
+unfoldable pub ends_part : ℕ → Bool
+ends_part visit = leb 32768 visit
 
 unfoldable pub places_of : List ℕ → List ℕ
-places_of visits = map placeOf visits
+places_of visits = map place_of visits
 
 -- Visits that say places alone.
 pub record Unmarked (count : ℕ) (visits : List ℕ) : Type 0 where
@@ -20,7 +20,7 @@ pub record Unmarked (count : ℕ) (visits : List ℕ) : Type 0 where
 
 -- Some of them marked.
 pub record Marked (count : ℕ) (before after : List ℕ) : Type 0 where
-  pub places : (i : ℕ) → i < count → placeOf (get_or after i 0) ≡ get_or before i 0
+  pub places : (i : ℕ) → i < count → place_of (get_or after i 0) ≡ get_or before i 0
   pub stays : StaysFrom count before after
 
 -- ---- parts
@@ -32,22 +32,22 @@ pub record Asks (by : ℕ) (numbers : List ℕ) (place o : ℕ) : Type 0 where
   pub asked : get_or numbers (place + 2 + at) 0 ≡ 2 * o + by
 
 -- The head of the row that is visited.
-unfoldable pub headAt : List ℕ → List ℕ → ℕ → ℕ
-headAt numbers visits i = get_or numbers (placeOf (get_or visits i 0)) 0
+unfoldable pub head_at : List ℕ → List ℕ → ℕ → ℕ
+head_at numbers visits i = get_or numbers (place_of (get_or visits i 0)) 0
 
 -- No row up to the end of a part asks for the head of a row after it.
 pub record Parted (by count : ℕ) (numbers visits : List ℕ) : Type 0 where
-  pub apart : (i e j : ℕ) → i ≤ e → e < j → j < count → endsPart (get_or visits e 0) ≡ true
-      → Asks by numbers (placeOf (get_or visits i 0)) (headAt numbers visits j) → ⊥
+  pub apart : (i e j : ℕ) → i ≤ e → e < j → j < count → ends_part (get_or visits e 0) ≡ true
+      → Asks by numbers (place_of (get_or visits i 0)) (head_at numbers visits j) → ⊥
 
 -- A part from `start` on: it ends with the first marked visit, or with the last.
 pub record PartEnd (visits : List ℕ) (start end : ℕ) : Type 0 where
   pub later : start < end
   pub within : end ≤ length visits
-  pub marked : end < length visits → endsPart (get_or visits (end - 1) 0) ≡ true
-  pub first : (i : ℕ) → start ≤ i → i + 1 < end → endsPart (get_or visits i 0) ≡ false
+  pub marked : end < length visits → ends_part (get_or visits (end - 1) 0) ≡ true
+  pub first : (i : ℕ) → start ≤ i → i + 1 < end → ends_part (get_or visits i 0) ≡ false
 
 -- No row before `start` asks for the head of one from there on.
 pub record Apart (by count : ℕ) (numbers visits : List ℕ) (start : ℕ) : Type 0 where
   pub apart : (i j : ℕ) → i < start → start ≤ j → j < count
-      → Asks by numbers (placeOf (get_or visits i 0)) (headAt numbers visits j) → ⊥
+      → Asks by numbers (place_of (get_or visits i 0)) (head_at numbers visits j) → ⊥

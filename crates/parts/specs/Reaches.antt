@@ -1,11 +1,11 @@
 -- How far rows ask among visits.
 use Rattle.std.specs.Prelude.{ℕ, ◌+◌, ◌*◌, ◌≤◌, ◌<◌, ◌≡◌, List, get_or}
-use Rattle.parts.specs.Parts.{headAt}
+use Rattle.parts.specs.Parts.{head_at}
 
 -- `lasts` has for a head how many of the first `done` visits there are up to the last one to a row of that head. Of a head that it has no
 -- room for nothing is known, so that stands for all of the `count` visits.
 pub record Lasts (count : ℕ) (numbers visits lasts : List ℕ) (done : ℕ) : Type 0 where
-  pub last : (j : ℕ) → j < done → j + 1 ≤ get_or lasts (headAt numbers visits j) count
+  pub last : (j : ℕ) → j < done → j + 1 ≤ get_or lasts (head_at numbers visits j) count
 
 -- What a number asks for is not visited from `reach` on.
 pub record Within (by count : ℕ) (lasts : List ℕ) (number reach : ℕ) : Type 0 where

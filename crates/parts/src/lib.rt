@@ -1,21 +1,21 @@
 // Parts of the visits to rows. A part is settled for itself: no row up to its end asks for the head of a row after it. Without rings each
 // row is a part; the rows of a ring are in one.
 ghost use Rattle.std.specs.Prelude.{◌≡◌, ◌≤◌, ◌<◌, length};
-ghost use Rattle.parts.specs.Parts.{placeOf, endsPart, Unmarked, Marked, Parted, PartEnd};
+ghost use Rattle.parts.specs.Parts.{place_of, ends_part, Unmarked, Marked, Parted, PartEnd};
 ghost use Rattle.parts.specs.Reaches.{Lasts, Within, RowReaches};
 
 use arrays::{get, put};
 
 // Where the row of a visit starts.
 pub fn place_of(visit: u16) -> usize
-    ensures { result ≡ placeOf visit }
+    ensures { result ≡ place_of visit }
 {
     (visit % 32768) as usize
 }
 
 // Whether a part ends with a visit.
 fn ends_part(visit: u16) -> bool
-    ensures { result ≡ endsPart visit }
+    ensures { result ≡ ends_part visit }
 {
     32768 <= visit
 }
@@ -89,7 +89,7 @@ fn reach_of(
 // A visit, marked where a part ends with it.
 fn mark(visit: u16, ends: bool) -> u16
     requires { visit < 32768 }
-    ensures { (placeOf result ≡ visit) × (endsPart result ≡ ends) }
+    ensures { (place_of result ≡ visit) × (ends_part result ≡ ends) }
 {
     if ends {
         return visit + 32768;

@@ -5,20 +5,20 @@ use mathlib.Core.List.{List}
 use Prim.Native.Nat.{ℕ, ◌≤◌}
 use native.Mathlib.Omega.{arith}
 use Rattle.papers.specs.declared.Contents.{Contents}
-use Rattle.papers.proofs.FoldsWalked.{rules-counted, few-folds}
+use Rattle.papers.proofs.FoldsWalked.{rules_counted, few_folds}
 use Rattle.preparing.specs.declared.Counts.{Counts}
 use Rattle.preparing.specs.Preparing.{PapersStand, Prepares}
 
 module _ {file places dual query rules₀ rules rule-visits₀ rule-visits entries₀ entries entry-visits₀ entry-visits asked₀ asked : List ℕ}
     {contents : Contents} {counts : Counts} (s : PapersStand file contents places dual query)
     (m : Prepares file query rules₀ rules rule-visits₀ rule-visits entries₀ entries entry-visits₀ entry-visits asked₀ asked counts) where
-  pub folds-within : counts.folds ≤ 1280
-  folds-within =
+  pub folds_within : counts.folds ≤ 1280
+  folds_within =
       let a = s.walked.answer in
-      omega (arith, ap (λ (c : Counts). c.folds) m.counted, few-folds file contents a, rules-counted file contents a)
+      omega (arith, ap (λ (c : Counts). c.folds) m.counted, few_folds file contents a, rules_counted file contents a)
 
-  pub judged-within : counts.judged ≤ 513
-  judged-within = omega (arith, ap (λ (c : Counts). c.judged) m.counted, s.starts.valid.fewAtoms)
+  pub judged_within : counts.judged ≤ 513
+  judged_within = omega (arith, ap (λ (c : Counts). c.judged) m.counted, s.starts.valid.few_atoms)
 
-  pub asked-within : counts.asked ≤ 16
-  asked-within = omega (arith, ap (λ (c : Counts). c.asked) m.counted, s.asked.few)
+  pub asked_within : counts.asked ≤ 16
+  asked_within = omega (arith, ap (λ (c : Counts). c.asked) m.counted, s.asked.few)

@@ -2,9 +2,9 @@
 use Rattle.std.specs.Prelude.{◌≡◌, List, ℕ, ◌≤◌, length}
 use Rattle.literals.specs.Numbering.{judged}
 use Rattle.papers.specs.declared.Contents.{Contents}
-use Rattle.papers.specs.Program.{Program, Query, allRules}
+use Rattle.papers.specs.Program.{Program, Query, all_rules}
 use Rattle.papers.specs.Valid.{ValidQuery}
-use Rattle.papers.specs.Reading.{programIn}
+use Rattle.papers.specs.Reading.{program_in}
 use Rattle.papers.specs.Field.{numbers}
 use Rattle.papers.specs.Places.{Walked}
 use Rattle.dual.specs.Bytes.{filled}
@@ -15,26 +15,26 @@ use Rattle.preparing.specs.declared.Counts.{Counts}
 -- Accepted papers with the places of their folds, the dual in its buffer, and the query as a part of the sheet.
 pub record PapersStand (file : List ℕ) (contents : Contents) (places dual query : List ℕ) : Type 0 where
   pub walked : Walked file contents places
-  pub starts : DualStarts (programIn file) dual
-  pub asked : ValidQuery (programIn file).atoms (numbers query)
+  pub starts : DualStarts (program_in file) dual
+  pub asked : ValidQuery (program_in file).atoms (numbers query)
 
 -- Arrays in which the numbers of any such papers find room.
 pub record Room (rules rule-visits entries entry-visits asked : List ℕ) : Type 0 where
-  pub rules-fit : 23040 ≤ length rules
-  pub rule-visits-fit : 1280 ≤ length rule-visits
+  pub rules_fit : 23040 ≤ length rules
+  pub rule_visits_fit : 1280 ≤ length rule-visits
   pub entries_fit : 28000 ≤ length entries
-  pub entry-visits-fit : 513 ≤ length entry-visits
-  pub asked-fit : 16 ≤ length asked
+  pub entry_visits_fit : 513 ≤ length entry-visits
+  pub asked_fit : 16 ≤ length asked
 
 -- As many visits as a program has folds and judged literals, and as many numbers as the query has literals.
-abbrev pub countsOf : Program → Query → Counts
-countsOf p q = record { folds = length (allRules p); judged = judged p.atoms; asked = length q }
+abbrev pub counts_of : Program → Query → Counts
+counts_of p q = record { folds = length (all_rules p); judged = judged p.atoms; asked = length q }
 
 -- The rules and the dual as rows of numbers that are all visited, the numbers of the query, and how many of each there are; what else stands in the
 -- arrays stays.
 pub record Prepares (file query rules₀ rules rule-visits₀ rule-visits entries₀ entries entry-visits₀ entry-visits asked₀ asked : List ℕ)
     (counts : Counts) : Type 0 where
-  pub rules-in : PreparedRules file rules₀ rules rule-visits₀ rule-visits
-  pub entries-in : PreparedEntries file entries₀ entries entry-visits₀ entry-visits
-  pub query-in : asked ≡ filled (numbers query) asked₀
-  pub counted : counts ≡ countsOf (programIn file) (numbers query)
+  pub rules_in_lem : PreparedRules file rules₀ rules rule-visits₀ rule-visits
+  pub entries_in : PreparedEntries file entries₀ entries entry-visits₀ entry-visits
+  pub query_in : asked ≡ filled (numbers query) asked₀
+  pub counted : counts ≡ counts_of (program_in file) (numbers query)

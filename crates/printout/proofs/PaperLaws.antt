@@ -9,67 +9,67 @@ use Rattle.papers.specs.declared.Contents.{Contents}
 use Rattle.papers.specs.Field.{numbers}
 use Rattle.papers.specs.Valid.{All, Valid}
 use Rattle.papers.specs.Outcome.{Outcome, accepted}
-use Rattle.papers.specs.Reading.{Papers, readPapers}
-use Rattle.papers.specs.Answers.{contentsOf}
+use Rattle.papers.specs.Reading.{Papers, read_papers}
+use Rattle.papers.specs.Answers.{contents_of}
 use Rattle.papers.proofs.NumberLaws.{Bytes}
-use Rattle.papers.proofs.FoldLaws.{abducibles-content, abducibles-within}
-use Rattle.papers.proofs.BothAccepted.{papers-file}
-use Rattle.papers.proofs.Lists.{all-each}
-use Rattle.papers.proofs.Accepted.{accepted-valid}
-use Rattle.dual.specs.Bytes.{dualOf}
-use Rattle.dual.proofs.Lengths.{dual-length}
-use Rattle.dual.proofs.Bound.{dual-bound}
-use Rattle.model.proofs.Rounds.{rounds-le}
+use Rattle.papers.proofs.FoldLaws.{abducibles_content, abducibles_within}
+use Rattle.papers.proofs.BothAccepted.{papers_file}
+use Rattle.papers.proofs.Lists.{all_each}
+use Rattle.papers.proofs.Accepted.{accepted_valid}
+use Rattle.dual.specs.Bytes.{dual_of}
+use Rattle.dual.proofs.Lengths.{dual_length_lem}
+use Rattle.dual.proofs.Bound.{dual_bound}
+use Rattle.model.proofs.Rounds.{rounds_le}
 use Rattle.steps.specs.Explanations.{Problem, scenarios}
-use Rattle.trying.specs.Trying.{problemOf}
-use Rattle.printout.specs.DeskSearch.{problemFor}
+use Rattle.trying.specs.Trying.{problem_of}
+use Rattle.printout.specs.DeskSearch.{problem_for}
 
-pub problem-is : {read : Outcome Papers} {q : Papers} → read ≡ accepted q → problemFor read ≡ problemOf q
-unfolding problemFor
-problem-is e = rw e
+pub problem_is : {read : Outcome Papers} {q : Papers} → read ≡ accepted q → problem_for read ≡ problem_of q
+unfolding problem_for
+problem_is e = rw e
 
 -- A problem within document 01's limits: at most 16 abducibles, and "at most 2N" rounds.
 pub record Small (P : Problem) : Type 0 where
   pub few : scenarios P ≤ 43046721
   pub rounds : (s : ℕ) → P.rounds s ≤ 1026
 
-module _ (file sheet : List ℕ) {q : Papers} (is : readPapers file sheet ≡ accepted q) where
-  pub program-valid : Valid q.program
-  program-valid = accepted-valid file q.program (papers-file file sheet is)
+module _ (file sheet : List ℕ) {q : Papers} (is : read_papers file sheet ≡ accepted q) where
+  pub program_valid : Valid q.program
+  program_valid = accepted_valid file q.program (papers_file file sheet is)
 
-  pub dual-few : length (dualOf q.program) ≤ 52488
-  dual-few = omega (arith, dual-length q.program, dual-bound q.program program-valid)
+  pub dual_few : length (dual_of q.program) ≤ 52488
+  dual_few = omega (arith, dual_length_lem q.program, dual_bound q.program program_valid)
 
-  pub small : Small (problemOf q)
+  pub small : Small (problem_of q)
   small =
-      let v = program-valid in
-      let p = pow-le-pow_right {n = 3} (omega arith) {i = length q.program.abducibles} {j = 16} v.fewAbducibles in
+      let v = program_valid in
+      let p = pow-le-pow_right {n = 3} (omega arith) {i = length q.program.abducibles} {j = 16} v.few_abducibles in
       record {
         few = omega arith;
-        rounds = λ s. let r = rounds-le q.program s in let a = v.fewAtoms in omega arith;
+        rounds = λ s. let r = rounds_le q.program s in let a = v.few_atoms in omega arith;
       }
 
   -- An abducible's number has at most three digits.
-  pub abducibles-below : All (◌< 1000) q.program.abducibles
-  abducibles-below = let few = program-valid.fewAtoms in all-each (λ a h. omega arith) program-valid.abduciblesListed
+  pub abducibles_below : All (◌< 1000) q.program.abducibles
+  abducibles_below = let few = program_valid.few_atoms in all_each (λ a h. omega arith) program_valid.abducibles_listed
 
   -- By the file's counts.
-  module _ {contents : Contents} (told : contentsOf q.program ≡ contents) where
-    pub listed-are : length q.program.abducibles ≡ contents.abducibles
-    listed-are = ap (λ (x : Contents). x.abducibles) told
+  module _ {contents : Contents} (told : contents_of q.program ≡ contents) where
+    pub listed_are : length q.program.abducibles ≡ contents.abducibles
+    listed_are = ap (λ (x : Contents). x.abducibles) told
 
-    pub few-listed : contents.abducibles ≤ 16
-    few-listed = let e = listed-are in let v = program-valid.fewAbducibles in omega arith
+    pub few_listed : contents.abducibles ≤ 16
+    few_listed = let e = listed_are in let v = program_valid.few_abducibles in omega arith
 
-    pub atoms-told : q.program.atoms ≡ contents.atoms
-    atoms-told = ap (λ (x : Contents). x.atoms) told
+    pub atoms_told : q.program.atoms ≡ contents.atoms
+    atoms_told = ap (λ (x : Contents). x.atoms) told
 
     -- The abducibles are the numbers of the part of the file from place 12 on.
     module _ (bytes : Bytes file) where
-      pub listed-within : 12 + 2 * contents.abducibles ≤ length file
-      listed-within = let e = listed-are in let w = abducibles-within file q.program bytes (papers-file file sheet is) in omega arith
+      pub listed_within : 12 + 2 * contents.abducibles ≤ length file
+      listed_within = let e = listed_are in let w = abducibles_within file q.program bytes (papers_file file sheet is) in omega arith
 
-      pub listed-there : q.program.abducibles ≡ numbers (take (12 + 2 * contents.abducibles - 12) (drop 12 file))
-      listed-there =
-          let e : 2 * length q.program.abducibles ≡ 12 + 2 * contents.abducibles - 12 = let k = listed-are in omega arith in
-          sym (abducibles-content file q.program bytes (papers-file file sheet is)) ∙ ap (λ (n : ℕ). numbers (take n (drop 12 file))) e
+      pub listed_there : q.program.abducibles ≡ numbers (take (12 + 2 * contents.abducibles - 12) (drop 12 file))
+      listed_there =
+          let e : 2 * length q.program.abducibles ≡ 12 + 2 * contents.abducibles - 12 = let k = listed_are in omega arith in
+          sym (abducibles_content file q.program bytes (papers_file file sheet is)) ∙ ap (λ (n : ℕ). numbers (take n (drop 12 file))) e

@@ -9,13 +9,13 @@ use lib.Dec.{eqb, ltb}
 use lib.ListN.{length, take}
 use Rattle.held.specs.declared.SearchRecord.{SearchRecord}
 use Rattle.held.specs.Masks.{masks}
-use Rattle.held.specs.HeldCalls.{freshSearch}
+use Rattle.held.specs.HeldCalls.{fresh_search}
 use Rattle.steps.specs.declared.State.TheVariants.{Going, Full, Ended}
-use Rattle.steps.specs.Explanations.{Problem, scenarios, minimals, stop, sumBelow}
-use Rattle.steps.specs.Continuing.{stateBy}
+use Rattle.steps.specs.Explanations.{Problem, scenarios, minimals, stop, sum_below}
+use Rattle.steps.specs.Continuing.{state_by}
 use Rattle.steps.proofs.Stopping.{stop_le}
 use Rattle.printout.specs.declared.searching.Progress.{Progress}
-use Rattle.printout.specs.DeskSearch.{isGoing, Stands, GoneOn, lastState, Finished}
+use Rattle.printout.specs.DeskSearch.{is_going, Stands, GoneOn, last_state, Finished}
 
 -- What is left to do: a turn more for a search that goes on.
 abbrev pub left : Problem → Progress → Bool → ℕ
@@ -28,7 +28,7 @@ pub record Turned (P : Problem) (L : ℕ) (before after : Progress) (going : Boo
 
 module _ (P : Problem) (L : ℕ) (before after : Progress) (within : before.reached.at.position ≤ stop P L) (gone : GoneOn P L before after) where
   ends : after.reached.at.position ≡ scenarios P → after.state ≡ Ended → Turned P L before after false
-  unfolding lastState
+  unfolding last_state
   ends e s =
       let top = stop_le P L in
       let at = gone.position in
@@ -37,7 +37,7 @@ module _ (P : Problem) (L : ℕ) (before after : Progress) (within : before.reac
 
   fills : (after.reached.at.position ≡ scenarios P → ⊥) → after.reached.at.position - before.reached.at.position < 4096 → after.state ≡ Full
       → Turned P L before after false
-  unfolding lastState
+  unfolding last_state
   fills e short s =
       let at = gone.position in
       let stopped : after.reached.at.position ≡ stop P L = omega arith in
@@ -50,27 +50,27 @@ module _ (P : Problem) (L : ℕ) (before after : Progress) (within : before.reac
       let at = gone.position in
       record { finished = λ h. absurd (true≢false cc); nearer = omega arith }
 
-  pub turned : Turned P L before after (isGoing after.state)
-  unfolding stateBy isGoing
+  pub turned : Turned P L before after (is_going after.state)
+  unfolding state_by is_going
   turned = go (eqb after.reached.at.position (scenarios P)) refl (ltb (after.reached.at.position - before.reached.at.position) 4096) refl
     where
       go : (x : Bool) → eqb after.reached.at.position (scenarios P) ≡ x
           → (y : Bool) → ltb (after.reached.at.position - before.reached.at.position) 4096 ≡ y
-          → Turned P L before after (isGoing after.state)
+          → Turned P L before after (is_going after.state)
       go true e y h =
           let s : after.state ≡ Ended = gone.state ∙ rw e in
-          subst (Turned P L before after) (sym (ap isGoing s)) (ends (eqb-true after.reached.at.position (scenarios P) e) s)
+          subst (Turned P L before after) (sym (ap is_going s)) (ends (eqb-true after.reached.at.position (scenarios P) e) s)
       go false e true h =
           let s : after.state ≡ Full = gone.state ∙ rw (e, h) in
-          subst (Turned P L before after) (sym (ap isGoing s))
+          subst (Turned P L before after) (sym (ap is_going s))
           (fills (eqb-false after.reached.at.position (scenarios P) e) (ltb-true (after.reached.at.position - before.reached.at.position) 4096 h) s)
       go false e false h =
           let s : after.state ≡ Going = gone.state ∙ rw (e, h) in
-          subst (Turned P L before after) (sym (ap isGoing s)) (goes (ltb-false (after.reached.at.position - before.reached.at.position) 4096 h))
+          subst (Turned P L before after) (sym (ap is_going s)) (goes (ltb-false (after.reached.at.position - before.reached.at.position) 4096 h))
 
 -- A search begins with nothing found and nothing tried.
-pub begins : (P : Problem) (list : List ℕ) (s : Progress) → s.reached ≡ freshSearch (masks 0 0) → s.tried ≡ 0 → s.rounds ≡ 0 → Stands P list s
-unfolding minimals sumBelow
+pub begins : (P : Problem) (list : List ℕ) (s : Progress) → s.reached ≡ fresh_search (masks 0 0) → s.tried ≡ 0 → s.rounds ≡ 0 → Stands P list s
+unfolding minimals sum_below
 begins P list s e t r =
     let position = ap (λ (x : SearchRecord). x.at.position) e in
     let found = ap (λ (x : SearchRecord). x.at.found) e in
@@ -79,6 +79,6 @@ begins P list s e t r =
       found = found ∙ ap (λ (n : ℕ). length (minimals P n)) (sym position);
       entries = ap (λ (n : ℕ). take n list) found ∙ ap (minimals P) (sym position);
       tried = t ∙ sym position;
-      rounds = r ∙ ap (λ (n : ℕ). sumBelow n P.rounds) (sym position);
+      rounds = r ∙ ap (λ (n : ℕ). sum_below n P.rounds) (sym position);
       none = ap (λ (x : SearchRecord). x.held) e;
     }

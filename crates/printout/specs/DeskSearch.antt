@@ -2,14 +2,14 @@
 use Rattle.std.specs.Prelude.{◌≡◌, Bool, true, false, cond, List, ℕ, ◌+◌, ◌-◌, ◌≤◌, min, eqb, length, take}
 use Rattle.papers.specs.declared.Contents.{Contents}
 use Rattle.papers.specs.Outcome.{Outcome, accepted, refused}
-use Rattle.papers.specs.Reading.{Papers, readPapers}
-use Rattle.papers.specs.Answers.{contentsOf}
+use Rattle.papers.specs.Reading.{Papers, read_papers}
+use Rattle.papers.specs.Answers.{contents_of}
 use Rattle.steps.specs.declared.State.{State}
 use Rattle.steps.specs.declared.State.TheVariants.{Going, Full, Ended}
-use Rattle.steps.specs.Explanations.{Problem, scenarios, minimals, stop, sumBelow}
-use Rattle.steps.specs.Continuing.{stateBy}
+use Rattle.steps.specs.Explanations.{Problem, scenarios, minimals, stop, sum_below}
+use Rattle.steps.specs.Continuing.{state_by}
 use Rattle.held.specs.Masks.{masks}
-use Rattle.trying.specs.Trying.{problemOf}
+use Rattle.trying.specs.Trying.{problem_of}
 use Rattle.printout.specs.declared.searching.Progress.{Progress}
 
 -- Both papers are accepted.
@@ -21,20 +21,20 @@ pub record Accepted (read : Outcome Papers) : Type 0 where
 pub record AcceptedAs (read : Outcome Papers) (contents : Contents) : Type 0 where
   pub papers : Papers
   pub is : read ≡ accepted papers
-  pub told : contentsOf papers.program ≡ contents
+  pub told : contents_of papers.program ≡ contents
 
 -- The problem of accepted papers. That of refused ones is of no use: no abducible and no explanation.
-unfoldable pub problemFor : Outcome Papers → Problem
-problemFor (accepted q) = problemOf q
-problemFor (refused r) = record { abducibles = 0; explains = λ s. false; rounds = λ s. 0 }
+unfoldable pub problem_for : Outcome Papers → Problem
+problem_for (accepted q) = problem_of q
+problem_for (refused r) = record { abducibles = 0; explains = λ s. false; rounds = λ s. 0 }
 
-abbrev pub problemOn : List ℕ → List ℕ → Problem
-problemOn file sheet = problemFor (readPapers file sheet)
+abbrev pub problem_on : List ℕ → List ℕ → Problem
+problem_on file sheet = problem_for (read_papers file sheet)
 
-unfoldable pub isGoing : State → Bool
-isGoing Going = true
-isGoing Full = false
-isGoing Ended = false
+unfoldable pub is_going : State → Bool
+is_going Going = true
+is_going Full = false
+is_going Ended = false
 
 -- Between two calls: the found entries are the minimal explanations below the position, the sums those of the scenarios below it.
 pub record Stands (P : Problem) (list : List ℕ) (s : Progress) : Type 0 where
@@ -42,20 +42,20 @@ pub record Stands (P : Problem) (list : List ℕ) (s : Progress) : Type 0 where
   pub found : s.reached.at.found ≡ length (minimals P s.reached.at.position)
   pub entries : take s.reached.at.found list ≡ minimals P s.reached.at.position
   pub tried : s.tried ≡ s.reached.at.position
-  pub rounds : s.rounds ≡ sumBelow s.reached.at.position P.rounds
+  pub rounds : s.rounds ≡ sum_below s.reached.at.position P.rounds
   -- The desk program holds no fault.
   pub none : s.reached.held ≡ masks 0 0
 
 -- One call on, with a list of length L.
 pub record GoneOn (P : Problem) (L : ℕ) (before after : Progress) : Type 0 where
   pub position : after.reached.at.position ≡ min (stop P L) (before.reached.at.position + 4096)
-  pub state : after.state ≡ stateBy (scenarios P) 4096 after.reached.at.position (after.reached.at.position - before.reached.at.position)
+  pub state : after.state ≡ state_by (scenarios P) 4096 after.reached.at.position (after.reached.at.position - before.reached.at.position)
 
 -- The state at the stopping point: "ended: position is 3^k", else full.
-unfoldable pub lastState : Problem → ℕ → State
-lastState P L = cond (eqb (stop P L) (scenarios P)) Ended Full
+unfoldable pub last_state : Problem → ℕ → State
+last_state P L = cond (eqb (stop P L) (scenarios P)) Ended Full
 
 -- Ended or full.
 pub record Finished (P : Problem) (L : ℕ) (s : Progress) : Type 0 where
   pub position : s.reached.at.position ≡ stop P L
-  pub state : s.state ≡ lastState P L
+  pub state : s.state ≡ last_state P L

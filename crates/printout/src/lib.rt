@@ -3,10 +3,10 @@ mod searching;
 
 ghost use Rattle.std.specs.Prelude.{◌≡◌, ◌≤◌, ◌<◌, ◌^◌, length, take};
 ghost use Rattle.papers.specs.Field.{numbers};
-ghost use Rattle.papers.specs.Reading.{readPapers};
+ghost use Rattle.papers.specs.Reading.{read_papers};
 ghost use Rattle.decimals.specs.Text.{Put};
 ghost use Rattle.printout.specs.DeskSearch.{AcceptedAs};
-ghost use Rattle.printout.specs.Output.{foundLines, deskText};
+ghost use Rattle.printout.specs.Output.{found_lines, desk_text};
 
 use model::scenario_count;
 use papers::{Contents, PapersRead};
@@ -21,7 +21,7 @@ fn write_found_lines(
     abducibles: &[u8],
 ) -> usize
     requires { (at ≤ 512) × ((found ≤ length list.now) × ((found ≤ 1024) × (length abducibles.now ≤ 32))) }
-    ensures { Put at (foundLines (numbers abducibles.now) (take found list.now)) out.old result out.new
+    ensures { Put at (found_lines (numbers abducibles.now) (take found list.now)) out.old result out.new
         × (result < 2 ^ 32) }
 {
     let mut end = at;
@@ -42,8 +42,8 @@ fn write_accepted(
     list: &mut [u32],
     out: &mut [u8],
 ) -> usize
-    requires { AcceptedAs (readPapers file.now sheet.now) contents × ((52488 ≤ length dual.old) × (length list.old ≡ 1024)) }
-    ensures { Put 0 (deskText (readPapers file.now sheet.now)) out.old result out.new × (result ≤ 98304) }
+    requires { AcceptedAs (read_papers file.now sheet.now) contents × ((52488 ≤ length dual.old) × (length list.old ≡ 1024)) }
+    ensures { Put 0 (desk_text (read_papers file.now sheet.now)) out.old result out.new × (result ≤ 98304) }
 {
     let count = contents.abducibles;
     let total = scenario_count(count);
@@ -64,7 +64,7 @@ pub fn write_report(
     out: &mut [u8],
 ) -> usize
     requires { (52488 ≤ length dual.old) × (length list.old ≡ 1024) }
-    ensures { Put 0 (deskText (readPapers file.now sheet.now)) out.old result out.new × (result ≤ 98304) }
+    ensures { Put 0 (desk_text (read_papers file.now sheet.now)) out.old result out.new × (result ≤ 98304) }
 {
     let read = reading::read_papers(file, sheet);
     let PapersRead::Accepted(contents, _) = read else {

@@ -1,9 +1,9 @@
 // A search that goes on until it ends or its list is full.
 ghost use Rattle.std.specs.Prelude.{◌≡◌, ◌≤◌, length};
-ghost use Rattle.papers.specs.Reading.{readPapers};
+ghost use Rattle.papers.specs.Reading.{read_papers};
 ghost use Rattle.held.specs.Masks.{masks};
-ghost use Rattle.held.specs.HeldCalls.{freshSearch};
-ghost use Rattle.printout.specs.DeskSearch.{Accepted, problemOn, isGoing, Stands, GoneOn, Finished};
+ghost use Rattle.held.specs.HeldCalls.{fresh_search};
+ghost use Rattle.printout.specs.DeskSearch.{Accepted, problem_on, is_going, Stands, GoneOn, Finished};
 
 use fresh::FreshAnswer;
 use held::{Masks, SearchRecord};
@@ -21,10 +21,10 @@ pub(crate) struct Progress {
 
 // One call, with an allowance of 4,096.
 fn go_on(file: &[u8], sheet: &[u8], dual: &mut [u8], list: &mut [u32], before: Progress) -> Progress
-    requires { Accepted (readPapers file.now sheet.now)
-        × ((52488 ≤ length dual.old) × Stands (problemOn file.now sheet.now) list.old before) }
-    ensures { Stands (problemOn file.now sheet.now) list.new result
-        × GoneOn (problemOn file.now sheet.now) (length list.old) before result }
+    requires { Accepted (read_papers file.now sheet.now)
+        × ((52488 ≤ length dual.old) × Stands (problem_on file.now sheet.now) list.old before) }
+    ensures { Stands (problem_on file.now sheet.now) list.new result
+        × GoneOn (problem_on file.now sheet.now) (length list.old) before result }
 {
     let from = before.reached;
     let continued = search::continue_search(file, sheet, dual, list, from, 4096);
@@ -42,7 +42,7 @@ fn go_on(file: &[u8], sheet: &[u8], dual: &mut [u8], list: &mut [u32], before: P
 }
 
 fn is_going(state: State) -> bool
-    ensures { result ≡ isGoing state }
+    ensures { result ≡ is_going state }
 {
     match state {
         State::Going => true,
@@ -53,7 +53,7 @@ fn is_going(state: State) -> bool
 
 // The record of a search that begins and holds no fault. Of a refused file it is of no use.
 fn begin(file: &[u8]) -> SearchRecord
-    ensures { result ≡ freshSearch (masks 0 0) }
+    ensures { result ≡ fresh_search (masks 0 0) }
 {
     let answer = fresh::fresh(file, 0, 0);
     let FreshAnswer::Begun(begun) = answer else {
@@ -71,9 +71,9 @@ fn begin(file: &[u8]) -> SearchRecord
 }
 
 pub(crate) fn search_all(file: &[u8], sheet: &[u8], dual: &mut [u8], list: &mut [u32]) -> Progress
-    requires { Accepted (readPapers file.now sheet.now) × (52488 ≤ length dual.old) }
-    ensures { Stands (problemOn file.now sheet.now) list.new result
-        × Finished (problemOn file.now sheet.now) (length list.old) result }
+    requires { Accepted (read_papers file.now sheet.now) × (52488 ≤ length dual.old) }
+    ensures { Stands (problem_on file.now sheet.now) list.new result
+        × Finished (problem_on file.now sheet.now) (length list.old) result }
 {
     let mut progress = Progress {
         reached: begin(file),

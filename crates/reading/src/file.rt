@@ -1,8 +1,8 @@
 // The readers of a paper's fields, in the order in which they stand there.
 ghost use Rattle.std.specs.Prelude.{◌≡◌, ◌+◌, ◌*◌, ◌≤◌, ◌<◌, length, take, drop};
 ghost use Rattle.papers.specs.Field.{numbers};
-ghost use Rattle.papers.specs.Reading.{readEdition, readAtoms, readAbducibles, readRun, readEnd, readRules};
-ghost use Rattle.papers.specs.Answers.{numberAnswer, countAnswer, runAnswer, fileAnswer};
+ghost use Rattle.papers.specs.Reading.{read_edition, read_atoms, read_abducibles, read_run, read_end, read_rules};
+ghost use Rattle.papers.specs.Answers.{number_answer, count_answer, run_answer, file_answer};
 
 use content::{abducibles_fault, body_fault};
 use fields::{read_field, tag_at};
@@ -10,7 +10,7 @@ use numbered::number_at;
 use papers::{Contents, FieldRead, Fields, FileRead, NumberRead, Paper, Refusal, RunRead};
 
 pub(crate) fn read_edition(file: &[u8]) -> NumberRead
-    ensures { result ≡ numberAnswer (readEdition file.now) }
+    ensures { result ≡ number_answer (read_edition file.now) }
 {
     let got = read_field(file, Paper::File, 0x01, false, 0);
     let FieldRead::Content { start, end } = got else {
@@ -32,7 +32,7 @@ pub(crate) fn read_edition(file: &[u8]) -> NumberRead
 
 pub(crate) fn read_atoms(file: &[u8]) -> NumberRead
     requires { 4 ≤ length file.now }
-    ensures { result ≡ numberAnswer (readAtoms file.now) }
+    ensures { result ≡ number_answer (read_atoms file.now) }
 {
     let got = read_field(file, Paper::File, 0x02, false, 4);
     let FieldRead::Content { start, end } = got else {
@@ -61,7 +61,7 @@ pub(crate) fn read_atoms(file: &[u8]) -> NumberRead
 
 pub(crate) fn read_abducibles(file: &[u8], atoms: u16) -> NumberRead
     requires { 9 ≤ length file.now }
-    ensures { result ≡ countAnswer (readAbducibles atoms file.now) }
+    ensures { result ≡ count_answer (read_abducibles atoms file.now) }
 {
     let got = read_field(file, Paper::File, 0x03, false, 9);
     let FieldRead::Content { start, end } = got else {
@@ -91,7 +91,7 @@ pub(crate) fn read_run(
     from: usize,
 ) -> RunRead
     requires { (from ≤ length file.now) × ((tag ≡ 1 → ⊥) × (limit < 65536)) }
-    ensures { result ≡ runAnswer 0 (readRun tag atoms (numbers abducibles.now) limit from file.now) }
+    ensures { result ≡ run_answer 0 (read_run tag atoms (numbers abducibles.now) limit from file.now) }
 {
     let mut place = from;
     let mut count: usize = 0;
@@ -121,7 +121,7 @@ pub(crate) fn read_run(
 
 pub(crate) fn read_end(bytes: &[u8], paper: Paper, place: usize) -> NumberRead
     requires { place ≤ length bytes.now }
-    ensures { result ≡ numberAnswer (readEnd paper place bytes.now) }
+    ensures { result ≡ number_answer (read_end paper place bytes.now) }
 {
     let got = read_field(bytes, paper, 0x7F, false, place);
     let FieldRead::Content { start, end: _ } = got else {
@@ -159,7 +159,7 @@ fn fields_at(count: usize, place: usize) -> Fields
 // the part of the file from place 12 on.
 pub(crate) fn read_rules(file: &[u8], atoms: u16, abducibles: usize) -> FileRead
     requires { 12 + 2 * abducibles ≤ length file.now }
-    ensures { result ≡ fileAnswer (readRules atoms (numbers (take (2 * abducibles) (drop 12 file.now))) file.now) }
+    ensures { result ≡ file_answer (read_rules atoms (numbers (take (2 * abducibles) (drop 12 file.now))) file.now) }
 {
     let first = 12 + 2 * abducibles;
     let listed = &file[12..first];

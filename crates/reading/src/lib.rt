@@ -3,9 +3,9 @@
 mod file;
 
 ghost use Rattle.std.specs.Prelude.{◌≡◌};
-ghost use Rattle.papers.specs.Reading.{readFile, readSheet, readPapers};
-ghost use Rattle.papers.specs.Answers.{countAnswer, contentsOf};
-ghost use Rattle.papers.specs.Told.{readTold, fileTold, papersOf, papersTold};
+ghost use Rattle.papers.specs.Reading.{read_file, read_sheet, read_papers};
+ghost use Rattle.papers.specs.Answers.{count_answer, contents_of};
+ghost use Rattle.papers.specs.Told.{read_told, file_told, papers_of, papers_told};
 
 use content::literals_fault;
 use fields::read_field;
@@ -14,7 +14,7 @@ use papers::{FieldRead, FileRead, NumberRead, Paper, PapersRead, Refusal};
 
 // The file alone.
 pub fn read_file(file: &[u8]) -> FileRead
-    ensures { fileTold result ≡ readTold contentsOf (readFile file.now) }
+    ensures { file_told result ≡ read_told contents_of (read_file file.now) }
 {
     let edition = read_edition(file);
     let NumberRead::Number(_) = edition else {
@@ -42,7 +42,7 @@ pub fn read_file(file: &[u8]) -> FileRead
 
 // The sheet that goes with a file of this many atoms: how many literals its query has.
 fn read_sheet(sheet: &[u8], atoms: u16) -> NumberRead
-    ensures { result ≡ countAnswer (readSheet atoms sheet.now) }
+    ensures { result ≡ count_answer (read_sheet atoms sheet.now) }
 {
     let got = read_field(sheet, Paper::Sheet, 0x06, false, 0);
     let FieldRead::Content { start, end } = got else {
@@ -68,7 +68,7 @@ fn read_sheet(sheet: &[u8], atoms: u16) -> NumberRead
 
 // Both papers, the file first.
 pub fn read_papers(file: &[u8], sheet: &[u8]) -> PapersRead
-    ensures { papersTold result ≡ readTold papersOf (readPapers file.now sheet.now) }
+    ensures { papers_told result ≡ read_told papers_of (read_papers file.now sheet.now) }
 {
     let program = read_file(file);
     let FileRead::Accepted(contents) = program else {

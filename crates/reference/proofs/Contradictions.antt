@@ -3,44 +3,44 @@
 use mathlib.Core.Path.{◌≡◌, refl}
 use mathlib.Core.Bool.{true, false}
 use mathlib.Core.List.{[], ◌∷◌}
-use Rattle.model.specs.Model.{modelBytes, rounds, explains}
+use Rattle.model.specs.Model.{model_bytes, rounds, explains}
 use Rattle.steps.specs.Continuing.{fresh, continue}
-use Rattle.trying.specs.Trying.{problemOf}
-use Rattle.reference.specs.Programs.{contradictionAllowed, queryD, allowed}
+use Rattle.trying.specs.Trying.{problem_of}
+use Rattle.reference.specs.Programs.{contradiction_allowed, query_d, allowed}
 use Rattle.reference.specs.ComputingCalls.{computing}
 use Rattle.reference.proofs.Searches.{Read, whole}
 
-pub allowed-read : Read allowed
+pub allowed_read : Read allowed
 unfolding computing
-allowed-read = refl
+allowed_read = refl
 
 -- In scenario 1, a is assumed: d and -d are both, and falsum is false.
-pub allowed-model : modelBytes contradictionAllowed 1 ≡ 1 ∷ 2 ∷ 3 ∷ 3 ∷ 2 ∷ []
+pub allowed_model : model_bytes contradiction_allowed 1 ≡ 1 ∷ 2 ∷ 3 ∷ 3 ∷ 2 ∷ []
 unfolding computing
-allowed-model = refl
+allowed_model = refl
 
-pub allowed-rounds : rounds contradictionAllowed 1 ≡ 2
+pub allowed_rounds : rounds contradiction_allowed 1 ≡ 2
 unfolding computing
-allowed-rounds = refl
+allowed_rounds = refl
 
-pub allowed-none : explains contradictionAllowed queryD 1 ≡ false
+pub allowed_none : explains contradiction_allowed query_d 1 ≡ false
 unfolding computing
-allowed-none = refl
+allowed_none = refl
 
 -- Nor is it one where the query does not touch d, or is empty. With the empty query 0 is one, in which a is open.
-pub allowed-untouched : explains contradictionAllowed (0 ∷ []) 1 ≡ false
+pub allowed_untouched : explains contradiction_allowed (0 ∷ []) 1 ≡ false
 unfolding computing
-allowed-untouched = refl
+allowed_untouched = refl
 
-pub allowed-unasked : explains contradictionAllowed [] 1 ≡ false
+pub allowed_unasked : explains contradiction_allowed [] 1 ≡ false
 unfolding computing
-allowed-unasked = refl
+allowed_unasked = refl
 
-pub allowed-open : explains contradictionAllowed [] 0 ≡ true
+pub allowed_open : explains contradiction_allowed [] 0 ≡ true
 unfolding computing
-allowed-open = refl
+allowed_open = refl
 
 -- The whole search finds nothing, and the rounds of scenario 1 count among its 5.
-pub allowed-found : continue (problemOf allowed) 9 fresh (0 ∷ 0 ∷ []) ≡ whole 3 0 (0 ∷ 0 ∷ []) 5
+pub allowed_found : continue (problem_of allowed) 9 fresh (0 ∷ 0 ∷ []) ≡ whole 3 0 (0 ∷ 0 ∷ []) 5
 unfolding computing
-allowed-found = refl
+allowed_found = refl

@@ -5,29 +5,29 @@ use mathlib.Core.List.{[], ◌∷◌, map}
 use Rattle.literals.specs.declared.Atom.{Atom}
 use Rattle.literals.specs.declared.forms.Form.TheVariants as form
 use Rattle.literals.specs.declared.forms.FormOf.TheVariants.{Is, Nothing}
-use Rattle.literals.specs.Section21.{conjE}
-use Rattle.literals.specs.Numbering.{formOf, explicitConjugate, defaultConjugate}
+use Rattle.literals.specs.Section21.{conj_e}
+use Rattle.literals.specs.Numbering.{literal_form, explicit_conjugate, default_conjugate}
 use Rattle.literals.specs.ComputingConjugates.{conjugating}
 
 abbrev pub p1 : Atom
 p1 = record { 0 = 1 }
 
 -- p1, not p1, -p1 and not -p1,
-pub forms-of-p1 : map formOf (4 ∷ 5 ∷ 6 ∷ 7 ∷ []) ≡ form.Atom p1 ∷ form.NotAtom p1 ∷ form.NegatedAtom p1 ∷ form.NotNegatedAtom p1 ∷ []
+pub forms_of_p1 : map literal_form (4 ∷ 5 ∷ 6 ∷ 7 ∷ []) ≡ form.Atom p1 ∷ form.NotAtom p1 ∷ form.NegatedAtom p1 ∷ form.NotNegatedAtom p1 ∷ []
 unfolding conjugating
-forms-of-p1 = refl
+forms_of_p1 = refl
 
 -- of which the default conjugates are not p1, p1, not -p1 and -p1,
-pub default-of-p1 : map defaultConjugate (4 ∷ 5 ∷ 6 ∷ 7 ∷ []) ≡ 5 ∷ 4 ∷ 7 ∷ 6 ∷ []
+pub default_of_p1 : map default_conjugate (4 ∷ 5 ∷ 6 ∷ 7 ∷ []) ≡ 5 ∷ 4 ∷ 7 ∷ 6 ∷ []
 unfolding conjugating
-default-of-p1 = refl
+default_of_p1 = refl
 
 -- and which have the explicit conjugates -p1, none, p1 and none.
-pub explicit-of-p1 : map (λ l. conjE (formOf l)) (4 ∷ 5 ∷ 6 ∷ 7 ∷ []) ≡ Is (form.NegatedAtom p1) ∷ Nothing ∷ Is (form.Atom p1) ∷ Nothing ∷ []
+pub explicit_of_p1 : map (λ l. conj_e (literal_form l)) (4 ∷ 5 ∷ 6 ∷ 7 ∷ []) ≡ Is (form.NegatedAtom p1) ∷ Nothing ∷ Is (form.Atom p1) ∷ Nothing ∷ []
 unfolding conjugating
-explicit-of-p1 = refl
+explicit_of_p1 = refl
 
 -- By objective literals' numbers.
-pub explicit-numbers : map explicitConjugate (2 ∷ 3 ∷ []) ≡ 3 ∷ 2 ∷ []
+pub explicit_numbers : map explicit_conjugate (2 ∷ 3 ∷ []) ≡ 3 ∷ 2 ∷ []
 unfolding conjugating
-explicit-numbers = refl
+explicit_numbers = refl

@@ -3,105 +3,105 @@
 use mathlib.Core.Path.{◌≡◌, refl}
 use mathlib.Core.List.{List, [], ◌∷◌, ◌++◌}
 use Rattle.papers.specs.Outcome as file
-use Rattle.papers.specs.Encoding.{encodeFile}
-use Rattle.papers.specs.Reading.{readFile}
+use Rattle.papers.specs.Encoding.{encode_file}
+use Rattle.papers.specs.Reading.{read_file}
 use Rattle.decimals.specs.Text.{ascii}
-use Rattle.text.specs.Lines.{accepted, refused, textRefusal}
-use Rattle.text.specs.Importing.{importText}
+use Rattle.text.specs.Lines.{accepted, refused, text_refusal}
+use Rattle.text.specs.Importing.{import_text}
 use Rattle.text.specs.Computing.{computing}
 use Rattle.text.proofs.ReadBack.{read_back}
-use Rattle.reference.specs.Texts.{typedRule, formsText, typedForms, typedTouching, typedRising, typedNothing, seventeenText, repeated}
+use Rattle.reference.specs.Texts.{typed_rule, forms_text, typed_forms, typed_touching, typed_rising, typed_nothing, seventeen_text, repeated}
 
-pub rule-typed : importText (ascii "p3 :- -p1, not p0.") ≡ accepted typedRule
+pub rule_typed : import_text (ascii "p3 :- -p1, not p0.") ≡ accepted typed_rule
 unfolding computing
-rule-typed = refl
+rule_typed = refl
 
-pub rule-read : readFile (encodeFile typedRule) ≡ file.accepted typedRule
-rule-read = read_back (ascii "p3 :- -p1, not p0.") typedRule rule-typed
+pub rule_read : read_file (encode_file typed_rule) ≡ file.accepted typed_rule
+rule_read = read_back (ascii "p3 :- -p1, not p0.") typed_rule rule_typed
 
-pub forms-typed : importText formsText ≡ accepted typedForms
+pub forms_typed : import_text forms_text ≡ accepted typed_forms
 unfolding computing
-forms-typed = refl
+forms_typed = refl
 
-pub forms-read : readFile (encodeFile typedForms) ≡ file.accepted typedForms
-forms-read = read_back formsText typedForms forms-typed
+pub forms_read : read_file (encode_file typed_forms) ≡ file.accepted typed_forms
+forms_read = read_back forms_text typed_forms forms_typed
 
-pub touching-typed : importText (ascii "-p1:-notp0,not-p255.") ≡ accepted typedTouching
+pub touching_typed : import_text (ascii "-p1:-notp0,not-p255.") ≡ accepted typed_touching
 unfolding computing
-touching-typed = refl
+touching_typed = refl
 
-pub rising-typed : importText (ascii "abducible p2. abducible p0. abducible p2.") ≡ accepted typedRising
+pub rising_typed : import_text (ascii "abducible p2. abducible p0. abducible p2.") ≡ accepted typed_rising
 unfolding computing
-rising-typed = refl
+rising_typed = refl
 
-pub nothing-typed : importText (ascii " " ++ 0x0A ∷ []) ≡ accepted typedNothing
+pub nothing_typed : import_text (ascii " " ++ 0x0A ∷ []) ≡ accepted typed_nothing
 unfolding computing
-nothing-typed = refl
+nothing_typed = refl
 
 -- ---- 17
 
-pub above-255 : importText (ascii "p1 :- p256.") ≡ refused (textRefusal 17 6)
+pub above_255 : import_text (ascii "p1 :- p256.") ≡ refused (text_refusal 17 6)
 unfolding computing
-above-255 = refl
+above_255 = refl
 
-pub leading-zero : importText (ascii "p0. p01.") ≡ refused (textRefusal 17 4)
+pub leading_zero : import_text (ascii "p0. p01.") ≡ refused (text_refusal 17 4)
 unfolding computing
-leading-zero = refl
+leading_zero = refl
 
-pub no_digit : importText (ascii "p :- .") ≡ refused (textRefusal 17 0)
+pub no_digit : import_text (ascii "p :- .") ≡ refused (text_refusal 17 0)
 unfolding computing
 no_digit = refl
 
-pub tab : importText (ascii "p1" ++ 0x09 ∷ ascii ".") ≡ refused (textRefusal 17 2)
+pub tab : import_text (ascii "p1" ++ 0x09 ∷ ascii ".") ≡ refused (text_refusal 17 2)
 unfolding computing
 tab = refl
 
-pub cut_word : importText (ascii "fals") ≡ refused (textRefusal 17 0)
+pub cut_word : import_text (ascii "fals") ≡ refused (text_refusal 17 0)
 unfolding computing
 cut_word = refl
 
 -- ---- 18
 
-pub two-atoms : importText (ascii "p3p4.") ≡ refused (textRefusal 18 2)
+pub two_atoms : import_text (ascii "p3p4.") ≡ refused (text_refusal 18 2)
 unfolding computing
-two-atoms = refl
+two_atoms = refl
 
-pub no-literal : importText (ascii "p1 :- .") ≡ refused (textRefusal 18 6)
+pub no_literal : import_text (ascii "p1 :- .") ≡ refused (text_refusal 18 6)
 unfolding computing
-no-literal = refl
+no_literal = refl
 
-pub not_first : importText (ascii "nothing.") ≡ refused (textRefusal 18 0)
+pub not_first : import_text (ascii "nothing.") ≡ refused (text_refusal 18 0)
 unfolding computing
 not_first = refl
 
-pub inside-a-line : importText (ascii "p1 ") ≡ refused (textRefusal 18 3)
+pub inside_a_line : import_text (ascii "p1 ") ≡ refused (text_refusal 18 3)
 unfolding computing
-inside-a-line = refl
+inside_a_line = refl
 
 -- The earlier place decides.
-pub earlier-bar : importText (ascii "p1 p2 x") ≡ refused (textRefusal 18 3)
+pub earlier_bar : import_text (ascii "p1 p2 x") ≡ refused (text_refusal 18 3)
 unfolding computing
-earlier-bar = refl
+earlier_bar = refl
 
-pub earlier-stray : importText (ascii "p1 x p2") ≡ refused (textRefusal 17 3)
+pub earlier_stray : import_text (ascii "p1 x p2") ≡ refused (text_refusal 17 3)
 unfolding computing
-earlier-stray = refl
+earlier_stray = refl
 
 -- ---- the file's own numbers
 
-pub fixed-head : importText (ascii "p2. p1. abducible p1.") ≡ refused (textRefusal 8 4)
+pub fixed_head : import_text (ascii "p2. p1. abducible p1.") ≡ refused (text_refusal 8 4)
 unfolding computing
-fixed-head = refl
+fixed_head = refl
 
-pub long-body : importText (ascii "p0. p1 :- p0,p0,p0,p0,p0,p0,p0,p0,p0,p0,p0,p0,p0,p0,p0,p0,p0.") ≡ refused (textRefusal 3 4)
+pub long_body : import_text (ascii "p0. p1 :- p0,p0,p0,p0,p0,p0,p0,p0,p0,p0,p0,p0,p0,p0,p0,p0,p0.") ≡ refused (text_refusal 3 4)
 unfolding computing
-long-body = refl
+long_body = refl
 
 -- At the line that names the seventeenth different one.
-pub seventeenth : importText seventeenText ≡ refused (textRefusal 3 227)
+pub seventeenth : import_text seventeen_text ≡ refused (text_refusal 3 227)
 unfolding computing
 seventeenth = refl
 
-pub overfull : importText (repeated 257 (ascii "false.")) ≡ refused (textRefusal 9 1536)
+pub overfull : import_text (repeated 257 (ascii "false.")) ≡ refused (text_refusal 9 1536)
 unfolding computing repeated
 overfull = refl

@@ -16,8 +16,8 @@ example21 = record {
 }
 
 -- Its dual: a by fold 3, -a, b by fold 1, c by fold 0, -c, falsum. The fact -b has no entry.
-abbrev pub example21Dual : List ℕ
-example21Dual =
+abbrev pub example21_dual : List ℕ
+example21_dual =
     0x08 ∷ 0 ∷ 4 ∷ 0 ∷ 0 ∷ 0 ∷ 3 ∷
     0x09 ∷ 0 ∷ 4 ∷ 0 ∷ 3 ∷ 0 ∷ 0 ∷
     0x08 ∷ 0 ∷ 2 ∷ 0 ∷ 1 ∷
@@ -48,16 +48,16 @@ contradiction = record {
 }
 
 -- "Without the integrity rule."
-abbrev pub contradictionAllowed : Program
-contradictionAllowed = record {
+abbrev pub contradiction_allowed : Program
+contradiction_allowed = record {
   atoms = 2;
   abducibles = 0 ∷ [];
   rules = rule 2 (0 ∷ []) ∷ rule 3 [] ∷ [];
   integrity = [];
 }
 
-abbrev pub queryD : Query
-queryD = 4 ∷ []
+abbrev pub query_d : Query
+query_d = 4 ∷ []
 
 -- A program with a query.
 abbrev pub papers : Program → Query → Papers
@@ -65,7 +65,7 @@ papers program query = record { program = program; query = query }
 
 -- That without the integrity rule, with its query.
 abbrev pub allowed : Papers
-allowed = papers contradictionAllowed queryD
+allowed = papers contradiction_allowed query_d
 
 -- "Example 3.2, p*, q* abducible in that order, query q", of document 000: p, q, p*, q*, p_constr, q_constr = 0 to 5; p :- not q*;
 -- q :- not p*; p_constr :- p, -p*; q_constr :- q, -q*; falsum :- p_constr; falsum :- q_constr.
@@ -79,8 +79,8 @@ example32 = papers (record {
 
 -- "The programs of Figure 1 of document 001, each loaded without the others, abducibles a, b in that order": a, b = 0, 1.
 -- p0 :- q0; p0 :- a; q0 :- p0; q0 :- b; query not p0.
-abbrev pub figureP0 : Papers
-figureP0 = papers (record {
+abbrev pub figure_p0 : Papers
+figure_p0 = papers (record {
   atoms = 4;
   abducibles = 0 ∷ 1 ∷ [];
   rules = rule 4 (12 ∷ []) ∷ rule 4 (0 ∷ []) ∷ rule 6 (8 ∷ []) ∷ rule 6 (4 ∷ []) ∷ [];
@@ -88,8 +88,8 @@ figureP0 = papers (record {
 }) (9 ∷ [])
 
 -- p4 :- q4; q4 :- p4; q4 :- not a, not b; query not p4.
-abbrev pub figureP4 : Papers
-figureP4 = papers (record {
+abbrev pub figure_p4 : Papers
+figure_p4 = papers (record {
   atoms = 4;
   abducibles = 0 ∷ 1 ∷ [];
   rules = rule 4 (12 ∷ []) ∷ rule 6 (8 ∷ []) ∷ rule 6 (1 ∷ 5 ∷ []) ∷ [];
@@ -97,8 +97,8 @@ figureP4 = papers (record {
 }) (9 ∷ [])
 
 -- p8 :- not q8, a; q8 :- not p8; q8 :- b; query q8.
-abbrev pub figureQ8 : Papers
-figureQ8 = papers (record {
+abbrev pub figure_q8 : Papers
+figure_q8 = papers (record {
   atoms = 4;
   abducibles = 0 ∷ 1 ∷ [];
   rules = rule 4 (13 ∷ 0 ∷ []) ∷ rule 6 (9 ∷ []) ∷ rule 6 (4 ∷ []) ∷ [];
@@ -106,8 +106,8 @@ figureQ8 = papers (record {
 }) (12 ∷ [])
 
 -- a alone: p11 :- not q11, a; q11 :- p11, not a; query not q11.
-abbrev pub figureQ11 : Papers
-figureQ11 = papers (record {
+abbrev pub figure_q11 : Papers
+figure_q11 = papers (record {
   atoms = 3;
   abducibles = 0 ∷ [];
   rules = rule 2 (9 ∷ 0 ∷ []) ∷ rule 4 (4 ∷ 1 ∷ []) ∷ [];
@@ -115,8 +115,8 @@ figureQ11 = papers (record {
 }) (9 ∷ [])
 
 -- No abducible: p3 :- q3; q3 :- not r3; r3 :- p3; query p3.
-abbrev pub figureP3 : Papers
-figureP3 = papers (record {
+abbrev pub figure_p3 : Papers
+figure_p3 = papers (record {
   atoms = 3;
   abducibles = [];
   rules = rule 0 (4 ∷ []) ∷ rule 2 (9 ∷ []) ∷ rule 4 (0 ∷ []) ∷ [];
@@ -133,8 +133,8 @@ abbrev pub unsettled : Program
 unsettled = record { atoms = 1; abducibles = []; rules = rule 0 (u ∷ []) ∷ []; integrity = [] }
 
 -- Its dual: p by fold 0, which lists u; -p; falsum.
-abbrev pub unsettledDual : List ℕ
-unsettledDual =
+abbrev pub unsettled_dual : List ℕ
+unsettled_dual =
     0x08 ∷ 0 ∷ 4 ∷ 0 ∷ 0 ∷ 0 ∷ 0 ∷
     0x09 ∷ 0 ∷ 4 ∷ 0 ∷ 0 ∷ 0xFF ∷ 0xFF ∷
     0x08 ∷ 0 ∷ 2 ∷ 0 ∷ 1 ∷
@@ -142,17 +142,17 @@ unsettledDual =
     0x7F ∷ 0 ∷ 0 ∷ []
 
 -- p :- not p.
-abbrev pub selfDenied : Program
-selfDenied = record { atoms = 1; abducibles = []; rules = rule 0 (1 ∷ []) ∷ []; integrity = [] }
+abbrev pub self_denied : Program
+self_denied = record { atoms = 1; abducibles = []; rules = rule 0 (1 ∷ []) ∷ []; integrity = [] }
 
 -- p :- u, q; nothing gives q.
-abbrev pub besidesFalse : Program
-besidesFalse = record { atoms = 2; abducibles = []; rules = rule 0 (u ∷ 4 ∷ []) ∷ []; integrity = [] }
+abbrev pub besides_false : Program
+besides_false = record { atoms = 2; abducibles = []; rules = rule 0 (u ∷ 4 ∷ []) ∷ []; integrity = [] }
 
 -- falsum :- u; p is abducible, and nothing is asked.
-abbrev pub deniedByU : Papers
-deniedByU = papers (record { atoms = 1; abducibles = 0 ∷ []; rules = []; integrity = (u ∷ []) ∷ [] }) []
+abbrev pub denied_by_u : Papers
+denied_by_u = papers (record { atoms = 1; abducibles = 0 ∷ []; rules = []; integrity = (u ∷ []) ∷ [] }) []
 
 -- One atom and one rule.
-abbrev pub oneRule : ℕ → List ℕ → Program
-oneRule head body = record { atoms = 1; abducibles = []; rules = rule head body ∷ []; integrity = [] }
+abbrev pub one_rule : ℕ → List ℕ → Program
+one_rule head body = record { atoms = 1; abducibles = []; rules = rule head body ∷ []; integrity = [] }

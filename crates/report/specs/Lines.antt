@@ -10,45 +10,45 @@ use Rattle.decimals.specs.Text.{ascii, line}
 
 -- ---- the words
 
-abbrev pub atomsWord : List ℕ
-atomsWord = ascii "atoms"
+abbrev pub atoms_word : List ℕ
+atoms_word = ascii "atoms"
 
-abbrev pub abduciblesWord : List ℕ
-abduciblesWord = ascii "abducibles"
+abbrev pub abducibles_word : List ℕ
+abducibles_word = ascii "abducibles"
 
-abbrev pub scenariosWord : List ℕ
-scenariosWord = ascii "scenarios"
+abbrev pub scenarios_word : List ℕ
+scenarios_word = ascii "scenarios"
 
-abbrev pub triedWord : List ℕ
-triedWord = ascii "tried"
+abbrev pub tried_word : List ℕ
+tried_word = ascii "tried"
 
-abbrev pub roundsWord : List ℕ
-roundsWord = ascii "rounds"
+abbrev pub rounds_word : List ℕ
+rounds_word = ascii "rounds"
 
-abbrev pub refusedWord : List ℕ
-refusedWord = ascii "refused"
+abbrev pub refused_word : List ℕ
+refused_word = ascii "refused"
 
-unfoldable pub stateWord : State → List ℕ
-stateWord Going = ascii "going"
-stateWord Full = ascii "full"
-stateWord Ended = ascii "ended"
+unfoldable pub state_word : State → List ℕ
+state_word Going = ascii "going"
+state_word Full = ascii "full"
+state_word Ended = ascii "ended"
 
-unfoldable pub paperWord : Paper → List ℕ
-paperWord File = ascii "file"
-paperWord Sheet = ascii "sheet"
+unfoldable pub paper_word : Paper → List ℕ
+paper_word File = ascii "file"
+paper_word Sheet = ascii "sheet"
 
 -- ---- the lines
 
 -- `atoms 2 abducibles 1 scenarios 3`: "the first line has n, k and 3^k".
-unfoldable pub headingLine : ℕ → ℕ → ℕ → List ℕ
-headingLine atoms abducibles scenarios =
-    line atomsWord (decimal atoms ∷ abduciblesWord ∷ decimal abducibles ∷ scenariosWord ∷ decimal scenarios ∷ [])
+unfoldable pub heading_line : ℕ → ℕ → ℕ → List ℕ
+heading_line atoms abducibles scenarios =
+    line atoms_word (decimal atoms ∷ abducibles_word ∷ decimal abducibles ∷ scenarios_word ∷ decimal scenarios ∷ [])
 
 -- `ended tried 3 rounds 3`: "the last call's state, then the sums over all calls".
-unfoldable pub lastLine : State → ℕ → ℕ → List ℕ
-lastLine state tried rounds = line (stateWord state) (triedWord ∷ decimal tried ∷ roundsWord ∷ decimal rounds ∷ [])
+unfoldable pub last_line : State → ℕ → ℕ → List ℕ
+last_line state tried rounds = line (state_word state) (tried_word ∷ decimal tried ∷ rounds_word ∷ decimal rounds ∷ [])
 
 -- `refused 6 sheet 0`: "number, paper, place".
-unfoldable pub refusedLine : Refusal → List ℕ
-refusedLine refusal =
-    line refusedWord (decimal refusal.number ∷ paperWord refusal.paper ∷ decimal refusal.place ∷ [])
+unfoldable pub refused_line : Refusal → List ℕ
+refused_line refusal =
+    line refused_word (decimal refusal.number ∷ paper_word refusal.paper ∷ decimal refusal.place ∷ [])

@@ -3,7 +3,7 @@
 ghost use Rattle.std.specs.Prelude.{◌∷◌, ◌++◌, ◌+◌, ◌<◌, ◌≤◌, ◌^◌};
 ghost use Rattle.decimals.specs.Decimal.{decimal};
 ghost use Rattle.decimals.specs.Text.{Put};
-ghost use Rattle.report.specs.Lines.{stateWord, paperWord, headingLine, lastLine, refusedLine};
+ghost use Rattle.report.specs.Lines.{state_word, paper_word, heading_line, last_line, refused_line};
 
 use decimals::{put_byte, put_number, put_text};
 use papers::{Paper, Refusal};
@@ -18,7 +18,7 @@ pub fn write_heading(
     scenarios: u64,
 ) -> usize
     requires { at < 2 ^ 32 }
-    ensures { Put at (headingLine atoms abducibles scenarios) buffer.old result buffer.new × (result ≤ at + 512) }
+    ensures { Put at (heading_line atoms abducibles scenarios) buffer.old result buffer.new × (result ≤ at + 512) }
 {
     let first = put_number(buffer, at, b"atoms ", atoms);
     let second = put_number(buffer, first, b" abducibles ", abducibles);
@@ -28,7 +28,7 @@ pub fn write_heading(
 
 fn put_state(buffer: &mut [u8], at: usize, state: State) -> usize
     requires { at < 2 ^ 32 }
-    ensures { Put at (stateWord state) buffer.old result buffer.new × (result ≤ at + 5) }
+    ensures { Put at (state_word state) buffer.old result buffer.new × (result ≤ at + 5) }
 {
     match state {
         State::Going => put_text(buffer, at, b"going"),
@@ -40,7 +40,7 @@ fn put_state(buffer: &mut [u8], at: usize, state: State) -> usize
 // `ended tried 3 rounds 3`
 pub fn write_last(buffer: &mut [u8], at: usize, state: State, tried: u64, rounds: u64) -> usize
     requires { at < 2 ^ 32 }
-    ensures { Put at (lastLine state tried rounds) buffer.old result buffer.new × (result ≤ at + 512) }
+    ensures { Put at (last_line state tried rounds) buffer.old result buffer.new × (result ≤ at + 512) }
 {
     let first = put_state(buffer, at, state);
     let second = put_number(buffer, first, b" tried ", tried);
@@ -50,7 +50,7 @@ pub fn write_last(buffer: &mut [u8], at: usize, state: State, tried: u64, rounds
 
 fn put_place(buffer: &mut [u8], at: usize, paper: Paper, place: u64) -> usize
     requires { at < 2 ^ 33 }
-    ensures { Put at (32 ∷ (paperWord paper ++ (32 ∷ decimal place))) buffer.old result buffer.new × (result ≤ at + 27) }
+    ensures { Put at (32 ∷ (paper_word paper ++ (32 ∷ decimal place))) buffer.old result buffer.new × (result ≤ at + 27) }
 {
     match paper {
         Paper::File => put_number(buffer, at, b" file ", place),
@@ -61,7 +61,7 @@ fn put_place(buffer: &mut [u8], at: usize, paper: Paper, place: u64) -> usize
 // `refused 6 sheet 0`
 pub fn write_refused(buffer: &mut [u8], at: usize, refusal: Refusal) -> usize
     requires { at < 2 ^ 32 }
-    ensures { Put at (refusedLine refusal) buffer.old result buffer.new × (result ≤ at + 512) }
+    ensures { Put at (refused_line refusal) buffer.old result buffer.new × (result ≤ at + 512) }
 {
     let number = refusal.number as u64;
     let paper = refusal.paper;

@@ -10,12 +10,12 @@ use Rattle.papers.specs.Program.{Rule}
 use Rattle.papers.specs.Field.{numbers}
 use Rattle.papers.specs.Places.{BodyOf}
 use Rattle.papers.proofs.Lists.{set_more}
-use Rattle.papers.proofs.NumbersWalked.{count-numbers}
+use Rattle.papers.proofs.NumbersWalked.{count_numbers}
 use Rattle.dual.specs.Bytes.{filled}
 use Rattle.copying.specs.Laid.{laid}
-use Rattle.rows.specs.Rows.{ruleRow, joined, Starts}
-use Rattle.copying.proofs.LaidLaws.{laid-first, laid_none, laid-part, laid-row}
-use Rattle.rows.proofs.RowLaws.{joined-more, row_within}
+use Rattle.rows.specs.Rows.{rule_row, joined, Starts}
+use Rattle.copying.proofs.LaidLaws.{laid_first, laid_none, laid_part, laid_row}
+use Rattle.rows.proofs.RowLaws.{joined_more, row_within}
 
 -- The first k rows are decoded.
 pub record DecodedTo (rows : List (List ℕ)) (before starts : List ℕ) (k at : ℕ) (numbers begun : List ℕ) : Type 0 where
@@ -24,62 +24,62 @@ pub record DecodedTo (rows : List (List ℕ)) (before starts : List ℕ) (k at :
   pub started : (j : ℕ) → j < k → get_or begun j 0 ≡ length (joined (take j rows))
   pub beyond : (j : ℕ) → k ≤ j → get_or begun j 0 ≡ get_or starts j 0
   pub kept : length numbers ≡ length before
-  pub starts-kept : length begun ≡ length starts
+  pub starts_kept : length begun ≡ length starts
 
 module _ (rows : List (List ℕ)) (before starts : List ℕ) (room : length (joined rows) ≤ length before) (few : length rows ≤ length starts) where
-  pub decoded-none : DecodedTo rows before starts 0 0 before starts
+  pub decoded_none : DecodedTo rows before starts 0 0 before starts
   unfolding joined
-  decoded-none = record {
+  decoded_none = record {
     ends = refl;
     written = sym (laid_none 0 before (omega arith));
     started = λ j h. absurd (omega arith);
     beyond = λ j h. refl;
     kept = refl;
-    starts-kept = refl;
+    starts_kept = refl;
   }
 
   module _ (k at : ℕ) (values begun : List ℕ) (d : DecodedTo rows before starts k at values begun) where
-    pub decoded-all : k ≡ length rows → (values ≡ filled (joined rows) before) × Starts rows starts begun
-    decoded-all e =
+    pub decoded_all : k ≡ length rows → (values ≡ filled (joined rows) before) × Starts rows starts begun
+    decoded_all e =
         let all : take k rows ≡ rows = take_all k rows (omega arith) in (
-          d.written ∙ ap (λ (l : List (List ℕ)). laid 0 (joined l) before) all ∙ laid-first (joined rows) before,
+          d.written ∙ ap (λ (l : List (List ℕ)). laid 0 (joined l) before) all ∙ laid_first (joined rows) before,
           record { at = λ j h. d.started j (omega arith); beyond = λ j h. d.beyond j (omega arith) },
         )
 
     module _ (here : k < length rows) (row : List ℕ) (is : get_or rows k [] ≡ row) where
       -- There is room for one more,
-      pub decoded-room : at + length row ≤ length (joined rows)
-      decoded-room = let w = row_within rows k here in let l = ap length is in omega (arith, d.ends)
+      pub decoded_room : at + length row ≤ length (joined rows)
+      decoded_room = let w = row_within rows k here in let l = ap length is in omega (arith, d.ends)
 
       -- and it is decoded.
-      pub decoded-more : (next : ℕ) (after : List ℕ) → next ≡ at + length row → after ≡ laid at row values → length after ≡ length values
+      pub decoded_more : (next : ℕ) (after : List ℕ) → next ≡ at + length row → after ≡ laid at row values → length after ≡ length values
           → DecodedTo rows before starts (k + 1) next after (set begun k at)
-      decoded-more next after n a same =
-          let more : joined (take (k + 1) rows) ≡ joined (take k rows) ++ row = joined-more rows k here ∙ ap (λ (l : List ℕ). joined (take k rows) ++ l) is in
-          let r = decoded-room in
+      decoded_more next after n a same =
+          let more : joined (take (k + 1) rows) ≡ joined (take k rows) ++ row = joined_more rows k here ∙ ap (λ (l : List ℕ). joined (take k rows) ++ l) is in
+          let r = decoded_room in
           record {
             ends = let l = ap length more ∙ length-append (joined (take k rows)) row in omega (arith, d.ends);
             written =
                 a
                 ∙ ap (laid at row) d.written
-                ∙ laid-part 0 (joined (take k rows)) before row at (omega (arith, d.ends)) (omega arith)
+                ∙ laid_part 0 (joined (take k rows)) before row at (omega (arith, d.ends)) (omega arith)
                 ∙ ap (λ (l : List ℕ). laid 0 l before) (sym more);
-            started = set_more begun k at (λ j. length (joined (take j rows))) (omega (arith, d.starts-kept)) d.ends d.started;
+            started = set_more begun k at (λ j. length (joined (take j rows))) (omega (arith, d.starts_kept)) d.ends d.started;
             beyond = λ j h. get_or-set_other begun k j at 0 (λ e. omega arith) ∙ d.beyond j (omega arith);
             kept = same ∙ d.kept;
-            starts-kept = length-set begun k at ∙ d.starts-kept;
+            starts_kept = length-set begun k at ∙ d.starts_kept;
           }
 
 -- ---- the row of a rule
 
 module _ (r : Rule) (bytes : List ℕ) (b : BodyOf r bytes) where
-  pub body-counted : length (numbers bytes) ≡ length r.body
-  body-counted = ap length b.literals
+  pub body_counted : length (numbers bytes) ≡ length r.body
+  body_counted = ap length b.literals
 
-  pub rule-laid : (at head : ℕ) (before : List ℕ) → head ≡ r.head → at + length (ruleRow r) ≤ length before
-      → laid (at + 2) (numbers bytes) (set (set before at head) (at + 1) (length bytes / 2)) ≡ laid at (ruleRow r) before
-  unfolding ruleRow
-  rule-laid at head before h room =
-      let n = body-counted in
-      let c : length bytes / 2 ≡ length r.body = sym (count-numbers bytes) ∙ n in
-      rw (h, c, b.literals) (laid-row at r.head before r.body (omega arith) (length r.body))
+  pub rule_laid : (at head : ℕ) (before : List ℕ) → head ≡ r.head → at + length (rule_row r) ≤ length before
+      → laid (at + 2) (numbers bytes) (set (set before at head) (at + 1) (length bytes / 2)) ≡ laid at (rule_row r) before
+  unfolding rule_row
+  rule_laid at head before h room =
+      let n = body_counted in
+      let c : length bytes / 2 ≡ length r.body = sym (count_numbers bytes) ∙ n in
+      rw (h, c, b.literals) (laid_row at r.head before r.body (omega arith) (length r.body))

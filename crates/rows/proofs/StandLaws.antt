@@ -9,8 +9,8 @@ use lib.Seq.{ext_get_or, get_or-take, get_or-drop, length-take-le, get_or-append
 use Rattle.rows.specs.Rows.{StandsAt}
 
 module _ {x : ℕ} {row numbers : List ℕ} {place : ℕ} (s : StandsAt (x ∷ row) numbers place) where
-  pub stands-first : get_or numbers place 0 ≡ x
-  stands-first = let z : place + 0 ≡ place = omega arith in ap (λ (k : ℕ). get_or numbers k 0) (sym z) ∙ s.at 0 (omega arith)
+  pub stands_first : get_or numbers place 0 ≡ x
+  stands_first = let z : place + 0 ≡ place = omega arith in ap (λ (k : ℕ). get_or numbers k 0) (sym z) ∙ s.at 0 (omega arith)
 
   pub stands_after : StandsAt row numbers (place + 1)
   stands_after = record {
@@ -21,8 +21,8 @@ module _ {x : ℕ} {row numbers : List ℕ} {place : ℕ} (s : StandsAt (x ∷ r
   }
 
 module _ (first second numbers : List ℕ) (place : ℕ) (s : StandsAt (first ++ second) numbers place) where
-  pub stands-front : StandsAt first numbers place
-  stands-front = let l = length-append first second in record {
+  pub stands_front : StandsAt first numbers place
+  stands_front = let l = length-append first second in record {
     within = let w = s.within in omega arith;
     at = λ i h. s.at i (omega arith) ∙ front first second i h;
   } where
@@ -31,8 +31,8 @@ module _ (first second numbers : List ℕ) (place : ℕ) (s : StandsAt (first ++
     front (y ∷ a) b zero h = refl
     front (y ∷ a) b (suc i) h = front a b i (omega arith)
 
-  pub stands-rest : StandsAt second numbers (place + length first)
-  stands-rest = let l = length-append first second in record {
+  pub stands_rest : StandsAt second numbers (place + length first)
+  stands_rest = let l = length-append first second in record {
     within = let w = s.within in omega arith;
     at = λ i h.
         let e : place + length first + i ≡ place + (length first + i) = omega arith in
@@ -40,8 +40,8 @@ module _ (first second numbers : List ℕ) (place : ℕ) (s : StandsAt (first ++
   }
 
 -- As a part of the numbers.
-pub stands-part : (row numbers : List ℕ) (place : ℕ) → StandsAt row numbers place → take (length row) (drop place numbers) ≡ row
-stands-part row numbers place s =
+pub stands_part : (row numbers : List ℕ) (place : ℕ) → StandsAt row numbers place → take (length row) (drop place numbers) ≡ row
+stands_part row numbers place s =
     let d = length-drop place numbers in
     let w = s.within in
     let l : length (take (length row) (drop place numbers)) ≡ length row = length-take-le (length row) (drop place numbers) (omega arith) in

@@ -1,10 +1,10 @@
 -- The rules of a program and its dual as rows of numbers, one after the other in an array, so that the passes over them read no bytes.
 use Rattle.std.specs.Prelude.{◌≡◌, cond, List, [], ◌∷◌, ◌++◌, map, ℕ, zero, suc, ◌+◌, ◌*◌, ◌≤◌, ◌<◌, length, get_or, take}
 use Rattle.literals.specs.Numbering.{judged}
-use Rattle.literals.specs.BodyLiterals.{conjugateNumber}
-use Rattle.papers.specs.Program.{Rule, Program, allRules, ruleAt}
-use Rattle.papers.specs.Reading.{programIn}
-use Rattle.dual.specs.Table.{foldsOf, hasEntry}
+use Rattle.literals.specs.BodyLiterals.{conjugate_number}
+use Rattle.papers.specs.Program.{Rule, Program, all_rules, rule_at}
+use Rattle.papers.specs.Reading.{program_in}
+use Rattle.dual.specs.Table.{folds_of, has_entry}
 use Rattle.dual.specs.Bytes.{filled}
 use Rattle.arrays.specs.Staying.{StaysFrom}
 use Rattle.rows.specs.Visits.{Visits}
@@ -13,36 +13,36 @@ use Rattle.parts.specs.Parts.{places_of, Parted}
 -- ---- rows
 
 -- A rule: its head, how many literals its body has, and these.
-unfoldable pub ruleRow : Rule → List ℕ
-ruleRow r = r.head ∷ length r.body ∷ r.body
+unfoldable pub rule_row : Rule → List ℕ
+rule_row r = r.head ∷ length r.body ∷ r.body
 
 -- Clauses: for each the bytes that its literals take, and these. The first is even, so that it is not read as a literal not(o).
-unfoldable pub clausesRow : List (List ℕ) → List ℕ
-clausesRow [] = []
-clausesRow (clause ∷ more) = 2 * length clause ∷ (clause ++ clausesRow more)
+unfoldable pub clauses_row : List (List ℕ) → List ℕ
+clauses_row [] = []
+clauses_row (clause ∷ more) = 2 * length clause ∷ (clause ++ clauses_row more)
 
 -- The clause of a fold: the literals that its 09 field lists.
-abbrev pub clauseOf : Program → ℕ → List ℕ
-clauseOf p k = map conjugateNumber (ruleAt p k).body
+abbrev pub clause_of : Program → ℕ → List ℕ
+clause_of p k = map conjugate_number (rule_at p k).body
 
 -- The clauses of o's entry, one for each fold. Without an entry o is backed by no rule: one clause that lists nothing, so that it never holds.
-unfoldable pub clausesOf : Program → ℕ → List (List ℕ)
-clausesOf p o = cond (hasEntry p o) (map (clauseOf p) (foldsOf p o)) ([] ∷ [])
+unfoldable pub clauses_of : Program → ℕ → List (List ℕ)
+clauses_of p o = cond (has_entry p o) (map (clause_of p) (folds_of p o)) ([] ∷ [])
 
 -- An entry: its objective literal, how many numbers its clauses take, and these.
-unfoldable pub entryRow : Program → ℕ → List ℕ
-entryRow p o = o ∷ length (clausesRow (clausesOf p o)) ∷ clausesRow (clausesOf p o)
+unfoldable pub entry_row : Program → ℕ → List ℕ
+entry_row p o = o ∷ length (clauses_row (clauses_of p o)) ∷ clauses_row (clauses_of p o)
 
 -- Those of `count` objective literals from o on.
-unfoldable pub entryRowsFrom : Program → ℕ → ℕ → List (List ℕ)
-entryRowsFrom p zero o = []
-entryRowsFrom p (suc count) o = entryRow p o ∷ entryRowsFrom p count (o + 1)
+unfoldable pub entry_rows_from : Program → ℕ → ℕ → List (List ℕ)
+entry_rows_from p zero o = []
+entry_rows_from p (suc count) o = entry_row p o ∷ entry_rows_from p count (o + 1)
 
-abbrev pub ruleRows : Program → List (List ℕ)
-ruleRows p = map ruleRow (allRules p)
+abbrev pub rule_rows : Program → List (List ℕ)
+rule_rows p = map rule_row (all_rules p)
 
 abbrev pub entry_rows : Program → List (List ℕ)
-entry_rows p = entryRowsFrom p (judged p.atoms) 0
+entry_rows p = entry_rows_from p (judged p.atoms) 0
 
 -- ---- in an array
 
@@ -77,7 +77,7 @@ pub record Prepared (by : ℕ) (rows : List (List ℕ)) (before after visited vi
 
 -- The rules of an accepted file ask by 2o, the entries of its dual by 2o + 1.
 abbrev pub PreparedRules : List ℕ → List ℕ → List ℕ → List ℕ → List ℕ → Type 0
-PreparedRules file = Prepared 0 (ruleRows (programIn file))
+PreparedRules file = Prepared 0 (rule_rows (program_in file))
 
 abbrev pub PreparedEntries : List ℕ → List ℕ → List ℕ → List ℕ → List ℕ → Type 0
-PreparedEntries file = Prepared 1 (entry_rows (programIn file))
+PreparedEntries file = Prepared 1 (entry_rows (program_in file))

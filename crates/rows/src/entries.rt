@@ -2,12 +2,12 @@
 ghost use Rattle.std.specs.Prelude.{◌≡◌, ◌+◌, ◌*◌, ◌<◌, ◌≤◌, length, drop};
 ghost use Rattle.literals.specs.Numbering.{judged};
 ghost use Rattle.papers.specs.Field.{size_of};
-ghost use Rattle.papers.specs.Reading.{programIn};
-ghost use Rattle.dual.specs.Table.{foldsOf};
+ghost use Rattle.papers.specs.Reading.{program_in};
+ghost use Rattle.dual.specs.Table.{folds_of};
 ghost use Rattle.dual.specs.Bytes.{filled};
 ghost use Rattle.copying.specs.Laid.{laid};
-ghost use Rattle.rows.specs.Rows.{clausesRow, clausesOf, entryRow, entry_rows, joined, Starts};
-ghost use Rattle.rows.specs.DualBytes.{listedIn, clauseIn, FoldStands, literalIn, FieldStands, DualStarts, EntriesAt, FoldsAt};
+ghost use Rattle.rows.specs.Rows.{clauses_row, clauses_of, entry_row, entry_rows, joined, Starts};
+ghost use Rattle.rows.specs.DualBytes.{listed_in, clause_in, FoldStands, literal_in, FieldStands, DualStarts, EntriesAt, FoldsAt};
 
 use copying::copy_numbers;
 use literals::Objective;
@@ -22,10 +22,10 @@ struct Reached {
 
 // The clause of the 09 field at a place.
 fn decode_fold(dual: &[u8], place: usize, numbers: &mut [u16], at: usize) -> Reached
-    requires { FoldStands (drop place dual.now) × (at + (1 + length (listedIn (drop place dual.now))) ≤ length numbers.old) }
+    requires { FoldStands (drop place dual.now) × (at + (1 + length (listed_in (drop place dual.now))) ≤ length numbers.old) }
     ensures { (result.place ≡ place + 3 + size_of (drop place dual.now))
-        × ((result.at ≡ at + (1 + length (listedIn (drop place dual.now))))
-        × (numbers.new ≡ laid at (clauseIn (drop place dual.now)) numbers.old)) }
+        × ((result.at ≡ at + (1 + length (listed_in (drop place dual.now))))
+        × (numbers.new ≡ laid at (clause_in (drop place dual.now)) numbers.old)) }
 {
     let start = place + 5;
     let next = place + 3 + number_at(dual, place + 1);
@@ -51,12 +51,12 @@ fn decode_folds(
     numbers: &mut [u16],
     at: usize,
 ) -> Reached
-    requires { FoldsAt (programIn file.now) dual.now o.0 0 place
-        × ((folds ≡ length (foldsOf (programIn file.now) o.0))
-        × (at + length (clausesRow (clausesOf (programIn file.now) o.0)) ≤ length numbers.old)) }
-    ensures { EntriesAt (programIn file.now) dual.now (o.0 + 1) result.place
-        × ((result.at ≡ at + length (clausesRow (clausesOf (programIn file.now) o.0)))
-        × (numbers.new ≡ laid at (clausesRow (clausesOf (programIn file.now) o.0)) numbers.old)) }
+    requires { FoldsAt (program_in file.now) dual.now o.0 0 place
+        × ((folds ≡ length (folds_of (program_in file.now) o.0))
+        × (at + length (clauses_row (clauses_of (program_in file.now) o.0)) ≤ length numbers.old)) }
+    ensures { EntriesAt (program_in file.now) dual.now (o.0 + 1) result.place
+        × ((result.at ≡ at + length (clauses_row (clauses_of (program_in file.now) o.0)))
+        × (numbers.new ≡ laid at (clauses_row (clauses_of (program_in file.now) o.0)) numbers.old)) }
 {
     let mut next = place;
     let mut end = at;
@@ -76,7 +76,7 @@ fn decode_folds(
 // The objective literal whose 08 field stands at a place; 65536 where another field stands there.
 fn entry_literal(dual: &[u8], place: usize) -> Objective
     requires { FieldStands (drop place dual.now) }
-    ensures { result.0 ≡ literalIn (drop place dual.now) }
+    ensures { result.0 ≡ literal_in (drop place dual.now) }
 {
     if dual[place] == 0x08 {
         objective_at(dual, place + 3)
@@ -94,12 +94,12 @@ fn decode_entry(
     numbers: &mut [u16],
     at: usize,
 ) -> Reached
-    requires { EntriesAt (programIn file.now) dual.now o.0 place
-        × ((o.0 < judged (programIn file.now).atoms)
-        × ((at + length (entryRow (programIn file.now) o.0) ≤ 28000) × (28000 ≤ length numbers.old))) }
-    ensures { EntriesAt (programIn file.now) dual.now (o.0 + 1) result.place
-        × ((result.at ≡ at + length (entryRow (programIn file.now) o.0))
-        × (numbers.new ≡ laid at (entryRow (programIn file.now) o.0) numbers.old)) }
+    requires { EntriesAt (program_in file.now) dual.now o.0 place
+        × ((o.0 < judged (program_in file.now).atoms)
+        × ((at + length (entry_row (program_in file.now) o.0) ≤ 28000) × (28000 ≤ length numbers.old))) }
+    ensures { EntriesAt (program_in file.now) dual.now (o.0 + 1) result.place
+        × ((result.at ≡ at + length (entry_row (program_in file.now) o.0))
+        × (numbers.new ≡ laid at (entry_row (program_in file.now) o.0) numbers.old)) }
 {
     let found = entry_literal(dual, place);
     let start = at + 2;
@@ -121,10 +121,10 @@ fn decode_entry(
 
 // The entries of all objective literals, falsum's last, and where each row starts.
 pub fn decode_dual(file: &[u8], dual: &[u8], count: usize, numbers: &mut [u16], starts: &mut [u16])
-    requires { DualStarts (programIn file.now) dual.now
-        × ((count ≡ judged (programIn file.now).atoms) × ((28000 ≤ length numbers.old) × (513 ≤ length starts.old))) }
-    ensures { (numbers.new ≡ filled (joined (entry_rows (programIn file.now))) numbers.old)
-        × Starts (entry_rows (programIn file.now)) starts.old starts.new }
+    requires { DualStarts (program_in file.now) dual.now
+        × ((count ≡ judged (program_in file.now).atoms) × ((28000 ≤ length numbers.old) × (513 ≤ length starts.old))) }
+    ensures { (numbers.new ≡ filled (joined (entry_rows (program_in file.now))) numbers.old)
+        × Starts (entry_rows (program_in file.now)) starts.old starts.new }
 {
     let mut place: usize = 0;
     let mut at: usize = 0;

@@ -1,11 +1,11 @@
 // The rules of an accepted file as rows of numbers.
 ghost use Rattle.std.specs.Prelude.{◌≡◌, ◌+◌, ◌<◌, ◌≤◌, length};
-ghost use Rattle.papers.specs.Program.{allRules, ruleAt};
-ghost use Rattle.papers.specs.Reading.{programIn};
+ghost use Rattle.papers.specs.Program.{all_rules, rule_at};
+ghost use Rattle.papers.specs.Reading.{program_in};
 ghost use Rattle.papers.specs.Places.{Walked};
 ghost use Rattle.dual.specs.Bytes.{filled};
 ghost use Rattle.copying.specs.Laid.{laid};
-ghost use Rattle.rows.specs.Rows.{ruleRow, ruleRows, joined, Starts};
+ghost use Rattle.rows.specs.Rows.{rule_row, rule_rows, joined, Starts};
 
 use copying::copy_numbers;
 use literals::Fold;
@@ -21,10 +21,10 @@ fn decode_rule(
     at: usize,
 ) -> usize
     requires { Walked file.now contents places.now
-        × ((fold.0 < length (allRules (programIn file.now)))
-        × (at + length (ruleRow (ruleAt (programIn file.now) fold.0)) ≤ length numbers.old)) }
-    ensures { (result ≡ at + length (ruleRow (ruleAt (programIn file.now) fold.0)))
-        × (numbers.new ≡ laid at (ruleRow (ruleAt (programIn file.now) fold.0)) numbers.old) }
+        × ((fold.0 < length (all_rules (program_in file.now)))
+        × (at + length (rule_row (rule_at (program_in file.now) fold.0)) ≤ length numbers.old)) }
+    ensures { (result ≡ at + length (rule_row (rule_at (program_in file.now) fold.0)))
+        × (numbers.new ≡ laid at (rule_row (rule_at (program_in file.now) fold.0)) numbers.old) }
 {
     let head = folds::head_of(file, contents, places, fold);
     let body = folds::body_of(file, contents, places, fold);
@@ -45,8 +45,8 @@ pub fn decode_rules(
     starts: &mut [u16],
 )
     requires { Walked file.now contents places.now × ((23040 ≤ length numbers.old) × (1280 ≤ length starts.old)) }
-    ensures { (numbers.new ≡ filled (joined (ruleRows (programIn file.now))) numbers.old)
-        × Starts (ruleRows (programIn file.now)) starts.old starts.new }
+    ensures { (numbers.new ≡ filled (joined (rule_rows (program_in file.now))) numbers.old)
+        × Starts (rule_rows (program_in file.now)) starts.old starts.new }
 {
     let rules = contents.rules;
     let integrity = contents.integrity;

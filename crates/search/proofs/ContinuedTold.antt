@@ -6,32 +6,32 @@ use Prim.Native.Nat.{ℕ}
 use lib.Dec.{eqb}
 use Rattle.papers.specs.declared.Bare.TheVariants as bare
 use Rattle.papers.specs.Outcome.{refusal}
-use Rattle.papers.specs.Told.{Told, tells, refusedBy, refusedAt, bareNumber, bareTold, refusalTold}
-use Rattle.papers.proofs.ToldLaws.{told_of, told-fixes}
+use Rattle.papers.specs.Told.{Told, tells, refused_by, refused_at, bare_number, bare_told, refusal_told}
+use Rattle.papers.proofs.ToldLaws.{told_of, told_fixes}
 use Rattle.trying.specs.declared.Report.{Report}
 use Rattle.search.specs.declared.Continued.{Continued}
 use Rattle.search.specs.declared.Continued.TheVariants.{Reported, ShortDual, SpoiltSearch, Refused}
-use Rattle.search.specs.Searching.{continuedTold}
+use Rattle.search.specs.Searching.{continued_told}
 
 -- Continuing is refused under 11 and 14 of those that name no paper.
-abbrev continuedBare : ℕ → Continued
-continuedBare n = cond (eqb n (bareNumber bare.ShortDual)) ShortDual SpoiltSearch
+abbrev continued_bare : ℕ → Continued
+continued_bare n = cond (eqb n (bare_number bare.ShortDual)) ShortDual SpoiltSearch
 
-abbrev pub continuedFrom : Told Report → Continued
-continuedFrom (tells x) = Reported x
-continuedFrom (refusedBy n) = continuedBare n
-continuedFrom (refusedAt n paper place) = Refused (refusal n paper place)
+abbrev pub continued_from : Told Report → Continued
+continued_from (tells x) = Reported x
+continued_from (refused_by n) = continued_bare n
+continued_from (refused_at n paper place) = Refused (refusal n paper place)
 
-pub continued-from : (r : Continued) → continuedFrom (continuedTold r) ≡ r
-unfolding continuedTold bareTold refusalTold
-continued-from (Reported x) = refl
-continued-from ShortDual = refl
-continued-from SpoiltSearch = refl
-continued-from (Refused r) = refl
+pub continued_from_lem : (r : Continued) → continued_from (continued_told r) ≡ r
+unfolding continued_told bare_told refusal_told
+continued_from_lem (Reported x) = refl
+continued_from_lem ShortDual = refl
+continued_from_lem SpoiltSearch = refl
+continued_from_lem (Refused r) = refl
 
-pub continued-fixed : {r s : Continued} → continuedTold r ≡ continuedTold s → r ≡ s
-continued-fixed = told-fixes continuedTold continuedFrom continued-from
+pub continued_fixed : {r s : Continued} → continued_told r ≡ continued_told s → r ≡ s
+continued_fixed = told_fixes continued_told continued_from continued_from_lem
 
 -- Where a report is told, it was the answer.
-pub reported-told : {r : Continued} {x : Report} → continuedTold r ≡ tells x → r ≡ Reported x
-reported-told = told_of continuedTold continuedFrom continued-from
+pub reported_told : {r : Continued} {x : Report} → continued_told r ≡ tells x → r ≡ Reported x
+reported_told = told_of continued_told continued_from continued_from_lem

@@ -1,8 +1,8 @@
 // The search for minimal explanations.
 ghost use Rattle.std.specs.Prelude.{◌≡◌};
 ghost use Rattle.papers.specs.declared.PapersRead.{PapersRead};
-ghost use Rattle.papers.specs.Reading.{readPapers};
-ghost use Rattle.papers.specs.Answers.{papersAnswer};
+ghost use Rattle.papers.specs.Reading.{read_papers};
+ghost use Rattle.papers.specs.Answers.{papers_answer};
 ghost use Rattle.search.specs.Searching.{Answers};
 
 use dual_writer::DualWritten;
@@ -31,8 +31,8 @@ fn continue_accepted(
     from: SearchRecord,
     allowance: u32,
 ) -> Continued
-    requires { papersAnswer (readPapers file.now sheet.now) ≡ PapersRead.Accepted contents literals }
-    ensures { Answers (readPapers file.now sheet.now) allowance dual.old from list.old
+    requires { papers_answer (read_papers file.now sheet.now) ≡ PapersRead.Accepted contents literals }
+    ensures { Answers (read_papers file.now sheet.now) allowance dual.old from list.old
         result dual.new list.new }
 {
     let total = scenario_count(contents.abducibles);
@@ -68,7 +68,7 @@ pub fn continue_search(
     from: SearchRecord,
     allowance: u32,
 ) -> Continued
-    ensures { Answers (readPapers file.now sheet.now) allowance dual.old from list.old
+    ensures { Answers (read_papers file.now sheet.now) allowance dual.old from list.old
         result dual.new list.new }
 {
     let read = reading::read_papers(file, sheet);

@@ -3,10 +3,10 @@
 ghost use Rattle.std.specs.Prelude.{◌≡◌, cond, ◌<◌, replicate};
 ghost use Rattle.literals.specs.Numbering.{judged};
 ghost use Rattle.papers.specs.declared.FileRead.{FileRead};
-ghost use Rattle.papers.specs.Reading.{readFile, programIn};
-ghost use Rattle.papers.specs.Answers.{fileAnswer};
+ghost use Rattle.papers.specs.Reading.{read_file, program_in};
+ghost use Rattle.papers.specs.Answers.{file_answer};
 ghost use Rattle.closing.specs.FalseWords.{EntriesStand};
-ghost use Rattle.lanes.specs.Lanes.{inLane, NoneBeyond};
+ghost use Rattle.lanes.specs.Lanes.{lane_bit, NoneBeyond};
 ghost use Rattle.settling.specs.RoundLanes.{Decoded, RulesIn, NextTrue, NextFalse, MadeIf, Round, MarkedLanes, SettledLanes, HeldLanes};
 
 use backing::backing_words;
@@ -38,8 +38,8 @@ fn next_true(
     moved: u64,
     next: &mut [u64; 513],
 )
-    requires { RulesIn (programIn file.now) rules.now visits.now × (count ≡ judged (programIn file.now).atoms) }
-    ensures { MadeIf moved (NextTrue (programIn file.now) trues.now held.now failed.now
+    requires { RulesIn (program_in file.now) rules.now visits.now × (count ≡ judged (program_in file.now).atoms) }
+    ensures { MadeIf moved (NextTrue (program_in file.now) trues.now held.now failed.now
         next.old next.new) next.old next.new }
 {
     if moved == 0 {
@@ -61,8 +61,8 @@ fn next_false(
     backing: &mut [u64; 513],
     next: &mut [u64; 513],
 )
-    requires { EntriesStand (programIn file.now) entries.now visits.now × (atoms ≡ (programIn file.now).atoms) }
-    ensures { MadeIf moved (NextFalse (programIn file.now) falses.now held.now
+    requires { EntriesStand (program_in file.now) entries.now visits.now × (atoms ≡ (program_in file.now).atoms) }
+    ensures { MadeIf moved (NextFalse (program_in file.now) falses.now held.now
         next.old next.new) next.old next.new }
 {
     if moved == 0 {
@@ -96,9 +96,9 @@ fn next_round(
     t: &mut [u64; 513],
     f: &mut [u64; 513],
 ) -> Moved
-    requires { Decoded (programIn file.now) rules.now rule_visits.now entries.now entry_visits.now
-        × (atoms ≡ (programIn file.now).atoms) }
-    ensures { Round (programIn file.now) trues.now falses.now moved result next_t.old
+    requires { Decoded (program_in file.now) rules.now rule_visits.now entries.now entry_visits.now
+        × (atoms ≡ (program_in file.now).atoms) }
+    ensures { Round (program_in file.now) trues.now falses.now moved result next_t.old
         next_t.new next_f.old next_f.new t.old t.new f.old f.new }
 {
     let count = literals::judged(atoms);
@@ -135,7 +135,7 @@ fn next_round(
 // One of two numbers, by a lane of a word.
 fn by_lane(word: u64, lane: usize, set: u64, clear: u64) -> u64
     requires { lane < 64 }
-    ensures { result ≡ cond (inLane lane word) set clear }
+    ensures { result ≡ cond (lane_bit lane word) set clear }
 {
     if in_lane(word, lane) { set } else { clear }
 }
@@ -166,12 +166,12 @@ pub fn settle_words(
     t: &mut [u64; 513],
     f: &mut [u64; 513],
 ) -> [u64; 64]
-    requires { (fileAnswer (readFile file.now) ≡ FileRead.Accepted contents)
-        × (Decoded (programIn file.now) rules.now rule_visits.now entries.now entry_visits.now × ((base < 4294967296)
+    requires { (file_answer (read_file file.now) ≡ FileRead.Accepted contents)
+        × (Decoded (program_in file.now) rules.now rule_visits.now entries.now entry_visits.now × ((base < 4294967296)
         × ((t.old ≡ replicate 513 0) × (f.old ≡ replicate 513 0)))) }
-    ensures { SettledLanes (programIn file.now) base t.new f.new result
-        × (NoneBeyond (judged (programIn file.now).atoms) t.new
-        × NoneBeyond (judged (programIn file.now).atoms) f.new) }
+    ensures { SettledLanes (program_in file.now) base t.new f.new result
+        × (NoneBeyond (judged (program_in file.now).atoms) t.new
+        × NoneBeyond (judged (program_in file.now).atoms) f.new) }
 {
     let mut trues = [0u64; 513];
     let mut falses = [0u64; 513];
@@ -225,10 +225,10 @@ pub fn settle(
     entry_visits: &[u16],
     base: u64,
 ) -> Settled
-    requires { (fileAnswer (readFile file.now) ≡ FileRead.Accepted contents)
-        × (Decoded (programIn file.now) rules.now rule_visits.now entries.now entry_visits.now × (base < 4294967296)) }
-    ensures { SettledLanes (programIn file.now) base result.model.t result.model.f result.rounds
-        × HeldLanes (programIn file.now) base result.model.t result.model.p result.model.f }
+    requires { (file_answer (read_file file.now) ≡ FileRead.Accepted contents)
+        × (Decoded (program_in file.now) rules.now rule_visits.now entries.now entry_visits.now × (base < 4294967296)) }
+    ensures { SettledLanes (program_in file.now) base result.model.t result.model.f result.rounds
+        × HeldLanes (program_in file.now) base result.model.t result.model.p result.model.f }
 {
     let mut t = [0u64; 513];
     let mut f = [0u64; 513];

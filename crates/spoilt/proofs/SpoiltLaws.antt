@@ -8,27 +8,27 @@ use borrow.Author.Tests.{lt-ltb, le-ltb, le-leb, lt-leb}
 use lib.Dec.{ltb}
 use lib.ListN.{length, get_or, take, drop}
 use Rattle.papers.specs.Tests.{◌and◌, ◌or◌}
-use Rattle.papers.proofs.TestLaws.{or-true}
+use Rattle.papers.proofs.TestLaws.{or_true}
 use Rattle.steps.specs.declared.Record.{Record}
-use Rattle.steps.specs.Spoilt.{rising, all_below, spoiltBy}
-use Rattle.steps.proofs.Entries.{entries_next, entries-end}
+use Rattle.steps.specs.Spoilt.{rising, all_below, spoilt_by}
+use Rattle.steps.proofs.Entries.{entries_next, entries_end}
 
 -- ---- the first n entries, from index i on
 
 module _ (n : ℕ) (l : List ℕ) (i : ℕ) (held : n ≤ length l) where
   -- Whether they rise strictly.
   module _ (least : ℕ) where
-    pub rising-next : i < n → least ≤ get_or l i 0 → rising least (drop i (take n l)) ≡ rising (get_or l i 0 + 1) (drop (i + 1) (take n l))
+    pub rising_next : i < n → least ≤ get_or l i 0 → rising least (drop i (take n l)) ≡ rising (get_or l i 0 + 1) (drop (i + 1) (take n l))
     unfolding rising ◌and◌
-    rising-next h e = rw (entries_next n l i held h, le-leb least (get_or l i 0) e)
+    rising_next h e = rw (entries_next n l i held h, le-leb least (get_or l i 0) e)
 
-    pub rising-not : i < n → get_or l i 0 < least → rising least (drop i (take n l)) ≡ false
+    pub rising_not : i < n → get_or l i 0 < least → rising least (drop i (take n l)) ≡ false
     unfolding rising ◌and◌
-    rising-not h e = rw (entries_next n l i held h, lt-leb least (get_or l i 0) e)
+    rising_not h e = rw (entries_next n l i held h, lt-leb least (get_or l i 0) e)
 
-    pub rising-end : n ≤ i → rising least (drop i (take n l)) ≡ true
+    pub rising_end : n ≤ i → rising least (drop i (take n l)) ≡ true
     unfolding rising
-    rising-end h = rw (entries-end n l i held h)
+    rising_end h = rw (entries_end n l i held h)
 
   -- Whether all are below a position.
   module _ (position : ℕ) where
@@ -36,36 +36,36 @@ module _ (n : ℕ) (l : List ℕ) (i : ℕ) (held : n ≤ length l) where
     unfolding all_below ◌and◌
     below_next h e = rw (entries_next n l i held h, lt-ltb (get_or l i 0) position e)
 
-    pub below-not : i < n → position ≤ get_or l i 0 → all_below position (drop i (take n l)) ≡ false
+    pub below_not : i < n → position ≤ get_or l i 0 → all_below position (drop i (take n l)) ≡ false
     unfolding all_below ◌and◌
-    below-not h e = rw (entries_next n l i held h, le-ltb (get_or l i 0) position e)
+    below_not h e = rw (entries_next n l i held h, le-ltb (get_or l i 0) position e)
 
     pub below_end : n ≤ i → all_below position (drop i (take n l)) ≡ true
     unfolding all_below
-    below_end h = rw (entries-end n l i held h)
+    below_end h = rw (entries_end n l i held h)
 
 -- ---- test 14, by the first of its four that fails
 
-or-third : (a b c : Bool) → a or (b or (true or c)) ≡ true
+or_third : (a b c : Bool) → a or (b or (true or c)) ≡ true
 unfolding ◌or◌
-or-third true b c = refl
-or-third false b c = or-true b
+or_third true b c = refl
+or_third false b c = or_true b
 
 module _ (total : ℕ) (r : Record) (list : List ℕ) where
-  pub spoilt-position : total < r.position → spoiltBy total r list ≡ true
-  unfolding spoiltBy ◌or◌
-  spoilt-position h = rw (lt-ltb total r.position h)
+  pub spoilt_position : total < r.position → spoilt_by total r list ≡ true
+  unfolding spoilt_by ◌or◌
+  spoilt_position h = rw (lt-ltb total r.position h)
 
-  pub spoilt-found : length list < r.found → spoiltBy total r list ≡ true
-  unfolding spoiltBy ◌or◌
-  spoilt-found h = rw (lt-ltb (length list) r.found h) (or-true (ltb total r.position))
+  pub spoilt_found : length list < r.found → spoilt_by total r list ≡ true
+  unfolding spoilt_by ◌or◌
+  spoilt_found h = rw (lt-ltb (length list) r.found h) (or_true (ltb total r.position))
 
-  pub spoilt-rising : rising 0 (take r.found list) ≡ false → spoiltBy total r list ≡ true
-  unfolding spoiltBy ◌or◌
-  spoilt-rising e = rw e (or-third (ltb total r.position) (ltb (length list) r.found) (not (all_below r.position (take r.found list))))
+  pub spoilt_rising : rising 0 (take r.found list) ≡ false → spoilt_by total r list ≡ true
+  unfolding spoilt_by ◌or◌
+  spoilt_rising e = rw e (or_third (ltb total r.position) (ltb (length list) r.found) (not (all_below r.position (take r.found list))))
 
   -- Where the first three pass, the fourth decides.
-  pub spoilt-below : r.position ≤ total → r.found ≤ length list → rising 0 (take r.found list) ≡ true
-      → spoiltBy total r list ≡ not (all_below r.position (take r.found list))
-  unfolding spoiltBy ◌or◌
-  spoilt-below h g e = rw (le-ltb total r.position h, le-ltb (length list) r.found g, e)
+  pub spoilt_below : r.position ≤ total → r.found ≤ length list → rising 0 (take r.found list) ≡ true
+      → spoilt_by total r list ≡ not (all_below r.position (take r.found list))
+  unfolding spoilt_by ◌or◌
+  spoilt_below h g e = rw (le-ltb total r.position h, le-ltb (length list) r.found g, e)

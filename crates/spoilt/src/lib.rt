@@ -1,6 +1,6 @@
 // Test 14, spoilt search.
 ghost use Rattle.std.specs.Prelude.{◌≡◌, ◌≤◌, length, take};
-ghost use Rattle.steps.specs.Spoilt.{rising, all_below, spoiltBy};
+ghost use Rattle.steps.specs.Spoilt.{rising, all_below, spoilt_by};
 
 // Whether the found entries rise strictly.
 fn rises(list: &[u32], found: usize) -> bool
@@ -37,7 +37,7 @@ fn all_below(list: &[u32], found: usize, position: u32) -> bool
 
 // Test 14 on a record and a list, where there are `total` scenarios.
 pub fn is_spoilt(list: &[u32], position: u32, found: u32, total: u32) -> bool
-    ensures { result ≡ spoiltBy total (record { position = position; found = found }) list.now }
+    ensures { result ≡ spoilt_by total (record { position = position; found = found }) list.now }
 {
     if position > total {
         return true;

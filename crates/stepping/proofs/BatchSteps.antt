@@ -8,16 +8,16 @@ use native.Mathlib.Omega.{arith}
 use native.Mathlib.Numerals.{add-one}
 use lib.ListN.{get_or, take, set, length-set}
 use lib.Seq.{take-set-le}
-use Rattle.lanes.specs.Lanes.{inLane}
+use Rattle.lanes.specs.Lanes.{lane_bit}
 use Rattle.stepping.specs.declared.Move.{Move as Told}
 use Rattle.stepping.specs.declared.Move.TheVariants.{Stands, Tries, Writes}
 use Rattle.stepping.specs.declared.Progress.{Progress}
 use Rattle.steps.specs.Explanations.{Problem}
-use Rattle.steps.specs.Continuing.{newTo, work, step, steps}
-use Rattle.stepping.specs.Stepping.{workOf, Decided, Kept, LaneReady, LaneTried, InLanes, LanesTried}
+use Rattle.steps.specs.Continuing.{new_to, work, step, steps}
+use Rattle.stepping.specs.Stepping.{work_of, Decided, Kept, LaneReady, LaneTried, InLanes, LanesTried}
 use Rattle.stepping.specs.Containing.{Without}
-use Rattle.steps.proofs.Steps.{step-stands, step-tries, step-writes}
-use Rattle.steps.proofs.Runs.{steps-zero, steps-last, steps-short}
+use Rattle.steps.proofs.Steps.{step_stands, step_tries, step_writes}
+use Rattle.steps.proofs.Runs.{steps_zero, steps_last, steps_short}
 
 -- ---- one scenario
 
@@ -27,20 +27,20 @@ next s rounds found = record { position = s.position + 1; found = found; tried =
 
 module _ {k total first : ℕ} {new : Bool} {rounds : ℕ} {s : Progress} {l : List ℕ} {told : Told} (ready : LaneReady k total first rounds s l)
     (decided : Decided k s.position first s.found l new told) where
-  is-told : (m : Told) → told ≡ m → Decided k s.position first s.found l new m
-  is-told m q = subst (Decided k s.position first s.found l new) q decided
+  is_told : (m : Told) → told ≡ m → Decided k s.position first s.found l new m
+  is_told m q = subst (Decided k s.position first s.found l new) q decided
 
-  pub lane-stands : told ≡ Stands → LaneTried k total first new rounds s l s l
-  lane-stands q = let d = is-told Stands q in record {
+  pub lane_stands : told ≡ Stands → LaneTried k total first new rounds s l s l
+  lane_stands q = let d = is_told Stands q in record {
     advance = record { kept = ready.kept; size = refl; least = omega arith; most = omega arith; moved = omega arith };
     grown = omega arith;
     same = λ n h. refl;
-    is = λ P a b r. step-stands P s.position s.found l s.tried s.rounds (d.is P a b);
+    is = λ P a b r. step_stands P s.position s.found l s.tried s.rounds (d.is P a b);
   }
 
-  pub lane-tries : told ≡ Tries → LaneTried k total first new rounds s l (next s rounds s.found) l
-  lane-tries q =
-      let d = is-told Tries q in
+  pub lane_tries : told ≡ Tries → LaneTried k total first new rounds s l (next s rounds s.found) l
+  lane_tries q =
+      let d = is_told Tries q in
       let inside = d.allowed in
       record {
         advance = record {
@@ -53,14 +53,14 @@ module _ {k total first : ℕ} {new : Bool} {rounds : ℕ} {s : Progress} {l : L
         grown = omega arith;
         same = λ n h. refl;
         is = λ P a b r.
-            step-tries P s.position s.found l s.tried s.rounds (d.is P a b)
+            step_tries P s.position s.found l s.tried s.rounds (d.is P a b)
             ∙ ap (λ (n : ℕ). work (s.position + 1) s.found l (s.tried + 1) (s.rounds + n)) r;
       }
 
-  pub lane-writes : told ≡ Writes
+  pub lane_writes : told ≡ Writes
       → LaneTried k total first new rounds s l (next s rounds (s.found + 1)) (set l s.found s.position)
-  lane-writes q =
-      let d = is-told Writes q in
+  lane_writes q =
+      let d = is_told Writes q in
       let inside = d.allowed.0 in
       let room = d.allowed.1 in
       let n = length-set l s.found s.position in
@@ -75,31 +75,31 @@ module _ {k total first : ℕ} {new : Bool} {rounds : ℕ} {s : Progress} {l : L
         grown = omega arith;
         same = λ n h. take-set-le n l s.found s.position h;
         is = λ P a b r.
-            step-writes P s.position s.found l s.tried s.rounds (d.is P a b)
+            step_writes P s.position s.found l s.tried s.rounds (d.is P a b)
             ∙ ap (λ (n : ℕ). work (s.position + 1) (s.found + 1) (set l s.found s.position) (s.tried + 1) (s.rounds + n)) r;
       }
 
 -- ---- up to 64 scenarios
 
 -- A lane of the explanations that are new to some entries.
-new-in-lane : {P : Problem} {k p explained unlisted : ℕ} {rounds entries : List ℕ} → Without k p entries explained unlisted
-    → InLanes P k p explained rounds → (l : ℕ) → l < 64 → newTo P entries (p + l) ≡ inLane l unlisted
-unfolding newTo
-new-in-lane {P} {k} {p} {explained} {entries = entries} w i l h =
+new_in_lane : {P : Problem} {k p explained unlisted : ℕ} {rounds entries : List ℕ} → Without k p entries explained unlisted
+    → InLanes P k p explained rounds → (l : ℕ) → l < 64 → new_to P entries (p + l) ≡ lane_bit l unlisted
+unfolding new_to
+new_in_lane {P} {k} {p} {explained} {entries = entries} w i l h =
     rw (i.abducibles, ← i.explains l h) (sym (w.at l h))
 
 module _ {k total explained : ℕ} {rounds : List ℕ} where
-  pub lanes-none : {s : Progress} {l : List ℕ} → Kept total s l → LanesTried k total explained rounds 0 s l s l
-  lanes-none {s} {l} h = record {
+  pub lanes_none : {s : Progress} {l : List ℕ} → Kept total s l → LanesTried k total explained rounds 0 s l s l
+  lanes_none {s} {l} h = record {
     advance = record { kept = h; size = refl; least = omega arith; most = omega arith; moved = omega arith };
-    is = λ P i. steps-zero P (workOf s l);
+    is = λ P i. steps_zero P (work_of s l);
   }
 
   module _ {lane : ℕ} {s₀ : Progress} {l₀ : List ℕ} {s : Progress} {l : List ℕ} where
     -- One more lane, where each before it was tried.
     pub lanes_next : LanesTried k total explained rounds lane s₀ l₀ s l → s.tried ≡ s₀.tried + lane → lane < 64
         → {first unlisted : ℕ} → Without k s₀.position (take first l₀) explained unlisted → take first l ≡ take first l₀
-        → {new : Bool} → new ≡ inLane lane unlisted
+        → {new : Bool} → new ≡ lane_bit lane unlisted
         → {s' : Progress} {l' : List ℕ} → LaneTried k total first new (get_or rounds lane 0) s l s' l'
         → LanesTried k total explained rounds (lane + 1) s₀ l₀ s' l'
     lanes_next so_far all inside {first} w kept {new} q one =
@@ -109,19 +109,19 @@ module _ {k total explained : ℕ} {rounds : List ℕ} where
         record {
           advance = record { kept = h.kept; size = h.size ∙ g.size; least = omega arith; most = omega arith; moved = omega arith };
           is = λ P i.
-              ap (λ (n : ℕ). steps P n (workOf s₀ l₀)) (add-one lane) ∙ steps-last P lane (workOf s₀ l₀) ∙ ap (step P) (so_far.is P i)
-              ∙ one.is P i.abducibles (rw (at, kept) (new-in-lane w i lane inside) ∙ sym q)
+              ap (λ (n : ℕ). steps P n (work_of s₀ l₀)) (add-one lane) ∙ steps_last P lane (work_of s₀ l₀) ∙ ap (step P) (so_far.is P i)
+              ∙ one.is P i.abducibles (rw (at, kept) (new_in_lane w i lane inside) ∙ sym q)
               (ap P.rounds at ∙ sym (i.costs lane inside));
         }
 
     -- Where fewer were tried than there were lanes, the other lanes change nothing.
-    pub lanes-short : {count : ℕ} → LanesTried k total explained rounds lane s₀ l₀ s l → lane ≤ count → s.tried < s₀.tried + lane
+    pub lanes_short : {count : ℕ} → LanesTried k total explained rounds lane s₀ l₀ s l → lane ≤ count → s.tried < s₀.tried + lane
         → LanesTried k total explained rounds count s₀ l₀ s l
-    lanes-short {count} so_far h few =
+    lanes_short {count} so_far h few =
         let g = so_far.advance in
         record {
           advance = record { kept = g.kept; size = g.size; least = g.least; most = omega arith; moved = g.moved };
           is = λ P i.
               let e = so_far.is P i in
-              steps-short P lane count (workOf s₀ l₀) h (rw e few) ∙ e;
+              steps_short P lane count (work_of s₀ l₀) h (rw e few) ∙ e;
         }

@@ -12,29 +12,29 @@ use lib.Bits.{bit_and}
 use lib.Dec.{eqb}
 use lib.ListN.{length, get_or, take, drop, set, replicate, length-set, length-replicate, get_or-replicate}
 use lib.Seq.{get_or-set_same, get_or-set_other}
-use Rattle.digits.proofs.Powers.{power-next}
+use Rattle.digits.proofs.Powers.{power_next}
 use Rattle.papers.specs.Tests.{◌and◌, ◌or◌}
-use Rattle.papers.proofs.TestLaws.{and-true, and_assoc, false-and}
-use Rattle.lanes.specs.Lanes.{inLane}
-use Rattle.lanes.proofs.LaneLaws.{lane_and, lane_not, lane-full, lane-none}
+use Rattle.papers.proofs.TestLaws.{and_true, and_assoc, false_and}
+use Rattle.lanes.specs.Lanes.{lane_bit}
+use Rattle.lanes.proofs.LaneLaws.{lane_and, lane_not, lane_full, lane_none}
 use Rattle.digits.specs.Digits.{DigitLanes}
-use Rattle.steps.specs.Explanations.{partDigit, part_of}
-use Rattle.steps.specs.Continuing.{containsOne}
+use Rattle.steps.specs.Explanations.{part_digit, part_of}
+use Rattle.steps.specs.Continuing.{contains_one}
 use Rattle.stepping.specs.Containing.{DigitTable, EntryLanes, LanesLeft, NewToFirst}
-use Rattle.steps.proofs.Entries.{entries_next, entries-end}
-use Rattle.stepping.proofs.PartLoops.{part-done}
+use Rattle.steps.proofs.Entries.{entries_next, entries_end}
+use Rattle.stepping.proofs.PartLoops.{part_done}
 
 -- ---- the table
 
 -- Digit 0 is contained in any.
-zero-digit : (e : ℕ) → partDigit 0 e ≡ true
-unfolding partDigit ◌or◌
-zero-digit e = refl
+zero_digit : (e : ℕ) → part_digit 0 e ≡ true
+unfolding part_digit ◌or◌
+zero_digit e = refl
 
 -- Another one in itself alone.
-other-digit : (d e : ℕ) → (d ≡ 0 → ⊥) → partDigit d e ≡ eqb e d
-unfolding partDigit ◌or◌
-other-digit d e z = elim (ℕ_discrete e d) [
+other_digit : (d e : ℕ) → (d ≡ 0 → ⊥) → part_digit d e ≡ eqb e d
+unfolding part_digit ◌or◌
+other_digit d e z = elim (ℕ_discrete e d) [
   | yes q ↦ rw (ne_eqb d 0 z, eq-eqb d e (sym q), eq-eqb e d q)
   | no q ↦ rw (ne_eqb d 0 z, ne_eqb d e (λ r. q (sym r)), ne_eqb e d q)
 ]
@@ -45,8 +45,8 @@ pub record Tabled (i base : ℕ) (table : List ℕ) : Type 0 where
   pub done : DigitTable i base table
   pub rest : (o : ℕ) → 3 * i ≤ o → o < 48 → get_or table o 0 ≡ 18446744073709551615
 
-pub tabled-none : (base : ℕ) → Tabled 0 base (replicate 48 18446744073709551615)
-tabled-none base = record {
+pub tabled_none : (base : ℕ) → Tabled 0 base (replicate 48 18446744073709551615)
+tabled_none base = record {
   size = length-replicate {A = ℕ} 48 18446744073709551615;
   done = record { at = λ i d l h. absurd (omega arith) };
   rest = λ o h k. get_or-replicate 48 o 18446744073709551615 0 k;
@@ -54,43 +54,43 @@ tabled-none base = record {
 
 module _ (i base : ℕ) (table : List ℕ) (few : i < 16) (so_far : Tabled i base table) {power : ℕ} (raised : power ≡ 3 ^ i) (assumed ruled : ℕ)
     (one : DigitLanes base power 1 assumed) (two : DigitLanes base power 2 ruled) where
-  abbrev with-one : List ℕ
-  with-one = set table (3 * i + 1) assumed
+  abbrev with_one : List ℕ
+  with_one = set table (3 * i + 1) assumed
 
-  abbrev with-both : List ℕ
-  with-both = set with-one (3 * i + 2) ruled
+  abbrev with_both : List ℕ
+  with_both = set with_one (3 * i + 2) ruled
 
-  elsewhere : (o : ℕ) → (o ≡ 3 * i + 1 → ⊥) → (o ≡ 3 * i + 2 → ⊥) → get_or with-both o 0 ≡ get_or table o 0
-  elsewhere o a b = get_or-set_other with-one (3 * i + 2) o ruled 0 b ∙ get_or-set_other table (3 * i + 1) o assumed 0 a
+  elsewhere : (o : ℕ) → (o ≡ 3 * i + 1 → ⊥) → (o ≡ 3 * i + 2 → ⊥) → get_or with_both o 0 ≡ get_or table o 0
+  elsewhere o a b = get_or-set_other with_one (3 * i + 2) o ruled 0 b ∙ get_or-set_other table (3 * i + 1) o assumed 0 a
 
-  here : (d l : ℕ) → d < 3 → l < 64 → inLane l (get_or with-both (3 * i + d) 0) ≡ partDigit d ((base + l) / 3 ^ i % 3)
+  here : (d l : ℕ) → d < 3 → l < 64 → lane_bit l (get_or with_both (3 * i + d) 0) ≡ part_digit d ((base + l) / 3 ^ i % 3)
   here zero l h k =
-      ap (inLane l) (elsewhere (3 * i + 0) (λ e. omega arith) (λ e. omega arith) ∙ so_far.rest (3 * i + 0) (omega arith) (omega arith))
-      ∙ lane-full l k
-      ∙ sym (zero-digit ((base + l) / 3 ^ i % 3))
+      ap (lane_bit l) (elsewhere (3 * i + 0) (λ e. omega arith) (λ e. omega arith) ∙ so_far.rest (3 * i + 0) (omega arith) (omega arith))
+      ∙ lane_full l k
+      ∙ sym (zero_digit ((base + l) / 3 ^ i % 3))
   here (suc zero) l h k =
       let size = so_far.size in
-      ap (inLane l)
-      (get_or-set_other with-one (3 * i + 2) (3 * i + 1) ruled 0 (λ e. omega arith) ∙ get_or-set_same table (3 * i + 1) assumed 0 (omega arith))
+      ap (lane_bit l)
+      (get_or-set_other with_one (3 * i + 2) (3 * i + 1) ruled 0 (λ e. omega arith) ∙ get_or-set_same table (3 * i + 1) assumed 0 (omega arith))
       ∙ one.at l k
       ∙ ap (λ (n : ℕ). eqb ((base + l) / n % 3) 1) raised
-      ∙ sym (other-digit 1 ((base + l) / 3 ^ i % 3) (λ e. omega arith))
+      ∙ sym (other_digit 1 ((base + l) / 3 ^ i % 3) (λ e. omega arith))
   here (suc (suc zero)) l h k =
       let size = so_far.size in
       let kept = length-set table (3 * i + 1) assumed in
-      ap (inLane l) (get_or-set_same with-one (3 * i + 2) ruled 0 (omega arith))
+      ap (lane_bit l) (get_or-set_same with_one (3 * i + 2) ruled 0 (omega arith))
       ∙ two.at l k
       ∙ ap (λ (n : ℕ). eqb ((base + l) / n % 3) 2) raised
-      ∙ sym (other-digit 2 ((base + l) / 3 ^ i % 3) (λ e. omega arith))
+      ∙ sym (other_digit 2 ((base + l) / 3 ^ i % 3) (λ e. omega arith))
   here (suc (suc (suc d))) l h k = absurd (omega arith)
 
-  pub tabled-more : Tabled (i + 1) base with-both
-  tabled-more = record {
-    size = length-set with-one (3 * i + 2) ruled ∙ length-set table (3 * i + 1) assumed ∙ so_far.size;
+  pub tabled_more : Tabled (i + 1) base with_both
+  tabled_more = record {
+    size = length-set with_one (3 * i + 2) ruled ∙ length-set table (3 * i + 1) assumed ∙ so_far.size;
     done = record {
       at = λ j d l h k m. elim (ℕ_discrete j i) [
         | yes e ↦ rw e (here d l k m)
-        | no e ↦ ap (inLane l) (elsewhere (3 * j + d) (λ q. omega arith) (λ q. omega arith)) ∙ so_far.done.at j d l (omega arith) k m
+        | no e ↦ ap (lane_bit l) (elsewhere (3 * j + d) (λ q. omega arith) (λ q. omega arith)) ∙ so_far.done.at j d l (omega arith) k m
       ];
     };
     rest = λ o h k. elsewhere o (λ e. omega arith) (λ e. omega arith) ∙ so_far.rest o (omega arith) k;
@@ -99,27 +99,27 @@ module _ (i base : ℕ) (table : List ℕ) (few : i < 16) (so_far : Tabled i bas
 -- ---- the lanes of an entry
 
 -- The lowest digit, and the others.
-part-first : (k a b : ℕ) → 0 < k → part_of k a b ≡ (partDigit (a % 3) (b % 3) and part_of (k - 1) (a / 3) (b / 3))
+part_first : (k a b : ℕ) → 0 < k → part_of k a b ≡ (part_digit (a % 3) (b % 3) and part_of (k - 1) (a / 3) (b / 3))
 unfolding part_of
-part-first zero a b h = absurd (omega arith)
-part-first (suc k) a b h =
+part_first zero a b h = absurd (omega arith)
+part_first (suc k) a b h =
     let e : suc k - 1 ≡ k = omega arith in
     rw e
 
 -- No assumptions are part of any.
-part-zero : (k b : ℕ) → part_of k 0 b ≡ true
-unfolding part_of partDigit ◌and◌ ◌or◌
-part-zero zero b = refl
-part-zero (suc k) b = part-zero k (b / 3)
+part_zero : (k b : ℕ) → part_of k 0 b ≡ true
+unfolding part_of part_digit ◌and◌ ◌or◌
+part_zero zero b = refl
+part_zero (suc k) b = part_zero k (b / 3)
 
 -- A walk over the digits of an entry: those from the i-th on are left to compare, in the lanes of the word.
 pub record EntryTo (k : ℕ) (table : List ℕ) (entry lanes i word rest : ℕ) : Type 0 where
   pub at : (base : ℕ) → DigitTable k base table → (l : ℕ) → l < 64
-      → (inLane l lanes and part_of k entry (base + l)) ≡ (inLane l word and part_of (k - i) rest ((base + l) / 3 ^ i))
+      → (lane_bit l lanes and part_of k entry (base + l)) ≡ (lane_bit l word and part_of (k - i) rest ((base + l) / 3 ^ i))
 
 module _ (k : ℕ) (table : List ℕ) (entry lanes : ℕ) where
-  pub entry-starts : EntryTo k table entry lanes 0 lanes entry
-  entry-starts = record { at = λ base t l h. let e : k - 0 ≡ k = omega arith in rw (e, div-one (base + l)) }
+  pub entry_starts : EntryTo k table entry lanes 0 lanes entry
+  entry_starts = record { at = λ base t l h. let e : k - 0 ≡ k = omega arith in rw (e, div-one (base + l)) }
 
   module _ (i word rest : ℕ) (so_far : EntryTo k table entry lanes i word rest) where
     pub entry_next : i < k → EntryTo k table entry lanes (i + 1) (bit_and word (get_or table (3 * i + rest % 3) 0)) (rest / 3)
@@ -129,39 +129,39 @@ module _ (k : ℕ) (table : List ℕ) (entry lanes : ℕ) where
           let y = (base + l) / 3 ^ i in
           let others : k - i - 1 ≡ k - (i + 1) = omega arith in
           let next : y / 3 ≡ (base + l) / 3 ^ (i + 1) =
-          div-div-eq-div-mul (base + l) (3 ^ i) 3 ∙ ap (λ (n : ℕ). (base + l) / n) (power-next (3 ^ i) i refl)
+          div-div-eq-div-mul (base + l) (3 ^ i) 3 ∙ ap (λ (n : ℕ). (base + l) / n) (power_next (3 ^ i) i refl)
           in
           so_far.at base t l h
-          ∙ ap (λ (b : Bool). inLane l word and b) (part-first (k - i) rest y (omega arith))
+          ∙ ap (λ (b : Bool). lane_bit l word and b) (part_first (k - i) rest y (omega arith))
           ∙ rw (others, next, ← t.at i (rest % 3) l inside (omega arith) h, lane_and l word w)
-          (sym (and_assoc (inLane l word) (inLane l w) (part_of (k - (i + 1)) (rest / 3) ((base + l) / 3 ^ (i + 1)))));
+          (sym (and_assoc (lane_bit l word) (lane_bit l w) (part_of (k - (i + 1)) (rest / 3) ((base + l) / 3 ^ (i + 1)))));
     }
 
     -- What the lanes left to compare all contain,
-    pub entry-contained : ((b : ℕ) → part_of (k - i) rest b ≡ true) → EntryLanes k table entry lanes word
-    entry-contained all = record {
+    pub entry_contained : ((b : ℕ) → part_of (k - i) rest b ≡ true) → EntryLanes k table entry lanes word
+    entry_contained all = record {
       at = λ base t l h.
-          sym (so_far.at base t l h ∙ ap (λ (b : Bool). inLane l word and b) (all ((base + l) / 3 ^ i)) ∙ and-true (inLane l word));
+          sym (so_far.at base t l h ∙ ap (λ (b : Bool). lane_bit l word and b) (all ((base + l) / 3 ^ i)) ∙ and_true (lane_bit l word));
     }
 
     -- no digit that is not zero,
     pub entry_zero : rest ≡ 0 → EntryLanes k table entry lanes word
-    entry_zero e = entry-contained (λ b. rw e (part-zero (k - i) b))
+    entry_zero e = entry_contained (λ b. rw e (part_zero (k - i) b))
 
     -- or no digit.
-    pub entry-ends : k ≤ i → EntryLanes k table entry lanes word
-    entry-ends e = entry-contained (λ b. part-done (k - i) rest b (omega arith))
+    pub entry_ends : k ≤ i → EntryLanes k table entry lanes word
+    entry_ends e = entry_contained (λ b. part_done (k - i) rest b (omega arith))
 
     -- No lane left.
-    pub entry-none : word ≡ 0 → EntryLanes k table entry lanes word
-    entry-none e = record {
+    pub entry_none : word ≡ 0 → EntryLanes k table entry lanes word
+    entry_none e = record {
       at = λ base t l h.
-          let clear : inLane l word ≡ false = ap (inLane l) e ∙ lane-none l in
+          let clear : lane_bit l word ≡ false = ap (lane_bit l) e ∙ lane_none l in
           clear
           ∙ sym
           (so_far.at base t l h
           ∙ ap (λ (b : Bool). b and part_of (k - i) rest ((base + l) / 3 ^ i)) clear
-          ∙ false-and (part_of (k - i) rest ((base + l) / 3 ^ i)));
+          ∙ false_and (part_of (k - i) rest ((base + l) / 3 ^ i)));
     }
 
 -- ---- the lanes left by entries
@@ -169,7 +169,7 @@ module _ (k : ℕ) (table : List ℕ) (entry lanes : ℕ) where
 -- A walk over the entries: those of `more` are left to compare, with the lanes left.
 pub record LeftTo (k : ℕ) (table : List ℕ) (entries : List ℕ) (lanes : ℕ) (more : List ℕ) (left : ℕ) : Type 0 where
   pub at : (base : ℕ) → DigitTable k base table → (l : ℕ) → l < 64
-      → (inLane l lanes and not (containsOne k entries (base + l))) ≡ (inLane l left and not (containsOne k more (base + l)))
+      → (lane_bit l lanes and not (contains_one k entries (base + l))) ≡ (lane_bit l left and not (contains_one k more (base + l)))
 
 -- What does not contain the first entry and none of the others.
 left_by : (a p c : Bool) → (a and not (p or c)) ≡ ((a and not (a and p)) and not c)
@@ -179,43 +179,43 @@ left_by true false c = refl
 left_by false p c = refl
 
 module _ (k : ℕ) (table : List ℕ) (n : ℕ) (list : List ℕ) (lanes : ℕ) where
-  pub left-starts : LeftTo k table (take n list) lanes (drop 0 (take n list)) lanes
-  left-starts = record { at = λ base t l h. refl }
+  pub left_starts : LeftTo k table (take n list) lanes (drop 0 (take n list)) lanes
+  left_starts = record { at = λ base t l h. refl }
 
   module _ (i left : ℕ) (held : n ≤ length list) (so_far : LeftTo k table (take n list) lanes (drop i (take n list)) left) where
-    pub left-next : i < n → (contained : ℕ) → contained < 18446744073709551616 → EntryLanes k table (get_or list i 0) left contained
+    pub left_next : i < n → (contained : ℕ) → contained < 18446744073709551616 → EntryLanes k table (get_or list i 0) left contained
         → LeftTo k table (take n list) lanes (drop (i + 1) (take n list)) (bit_and left (18446744073709551615 - contained))
-    unfolding containsOne
-    left-next inside contained fits one = record {
+    unfolding contains_one
+    left_next inside contained fits one = record {
       at = λ base t l h.
           so_far.at base t l h
           ∙ rw (entries_next n list i held inside, lane_and l left (18446744073709551615 - contained), lane_not l contained h fits, one.at base t l h)
-          (left_by (inLane l left) (part_of k (get_or list i 0) (base + l)) (containsOne k (drop (i + 1) (take n list)) (base + l)));
+          (left_by (lane_bit l left) (part_of k (get_or list i 0) (base + l)) (contains_one k (drop (i + 1) (take n list)) (base + l)));
     }
 
-    pub left-ends : n ≤ i → LanesLeft k table (take n list) lanes left
-    unfolding containsOne
-    left-ends e = record {
+    pub left_ends : n ≤ i → LanesLeft k table (take n list) lanes left
+    unfolding contains_one
+    left_ends e = record {
       without = λ base t. record {
-        at = λ l h. sym (so_far.at base t l h ∙ rw (entries-end n list i held e) (and-true (inLane l left)));
+        at = λ l h. sym (so_far.at base t l h ∙ rw (entries_end n list i held e) (and_true (lane_bit l left)));
       };
     }
 
-    pub left-none : left ≡ 0 → LanesLeft k table (take n list) lanes left
-    left-none e = record {
+    pub left_none : left ≡ 0 → LanesLeft k table (take n list) lanes left
+    left_none e = record {
       without = λ base t. record {
         at = λ l h.
-            let clear : inLane l left ≡ false = ap (inLane l) e ∙ lane-none l in
-            let more = not (containsOne k (drop i (take n list)) (base + l)) in
-            clear ∙ sym (so_far.at base t l h ∙ ap (λ (b : Bool). b and more) clear ∙ false-and more);
+            let clear : lane_bit l left ≡ false = ap (lane_bit l) e ∙ lane_none l in
+            let more = not (contains_one k (drop i (take n list)) (base + l)) in
+            clear ∙ sym (so_far.at base t l h ∙ ap (λ (b : Bool). b and more) clear ∙ false_and more);
       };
     }
 
 -- ---- the explanations that are new
 
-pub new-uncompared : (k base : ℕ) (list : List ℕ) (found explained : ℕ) → NewToFirst k base list found explained (record { lanes = explained; entries = 0 })
-unfolding containsOne
-new-uncompared k base list found explained = record {
+pub new_uncompared : (k base : ℕ) (list : List ℕ) (found explained : ℕ) → NewToFirst k base list found explained (record { lanes = explained; entries = 0 })
+unfolding contains_one
+new_uncompared k base list found explained = record {
   few = omega arith;
-  without = record { at = λ l h. sym (and-true (inLane l explained)) };
+  without = record { at = λ l h. sym (and_true (lane_bit l explained)) };
 }

@@ -1,11 +1,11 @@
 -- The steps of a call as code makes them.
 use Rattle.std.specs.Prelude.{◌≡◌, Bool, List, ◌⊎◌, ℕ, ◌+◌, ◌*◌, ◌^◌, ◌<◌, ◌≤◌, length, get_or, take}
-use Rattle.lanes.specs.Lanes.{inLane}
+use Rattle.lanes.specs.Lanes.{lane_bit}
 use Rattle.stepping.specs.declared.Move.{Move as Told}
 use Rattle.stepping.specs.declared.Move.TheVariants.{Stands, Tries, Writes}
 use Rattle.stepping.specs.declared.Progress.{Progress}
 use Rattle.steps.specs.Explanations.{Problem}
-use Rattle.steps.specs.Continuing.{newTo, Move, stands, tries, writes, move, Work, work, step, steps}
+use Rattle.steps.specs.Continuing.{new_to, Move, stands, tries, writes, move, Work, work, step, steps}
 
 -- The move that is told.
 abbrev pub move_of : Told → Move
@@ -21,12 +21,12 @@ Allowed Writes k p found list = (p ≡ 3 ^ k → ⊥) × (found < length list)
 
 -- The move of every problem that has k abducibles and in which p is new to the first entries or not, as said.
 pub record Decided (k p first found : ℕ) (list : List ℕ) (new : Bool) (told : Told) : Type 0 where
-  pub is : (P : Problem) → P.abducibles ≡ k → newTo P (take first list) p ≡ new → move P p found list ≡ move_of told
+  pub is : (P : Problem) → P.abducibles ≡ k → new_to P (take first list) p ≡ new → move P p found list ≡ move_of told
   pub allowed : Allowed told k p found list
 
 -- How far a call has come, with its list.
-abbrev pub workOf : Progress → List ℕ → Work
-workOf s list = work s.position s.found list s.tried s.rounds
+abbrev pub work_of : Progress → List ℕ → Work
+work_of s list = work s.position s.found list s.tried s.rounds
 
 -- What a call keeps, where there are `total` scenarios and each takes 1,026 rounds at most.
 pub record Kept (total : ℕ) (s : Progress) (list : List ℕ) : Type 0 where
@@ -61,9 +61,9 @@ pub record LaneTried (k total first : ℕ) (new : Bool) (rounds : ℕ) (before :
   pub is :
       (P : Problem)
       → P.abducibles ≡ k
-      → newTo P (take first list) before.position ≡ new
+      → new_to P (take first list) before.position ≡ new
       → P.rounds before.position ≡ rounds
-      → step P (workOf before list) ≡ workOf after left
+      → step P (work_of before list) ≡ work_of after left
 
 -- ---- up to 64 scenarios
 
@@ -77,14 +77,14 @@ pub record LanesReady (k total : ℕ) (rounds : List ℕ) (count : ℕ) (before 
 -- The scenarios from p on, each in its lane: which are explanations, and how many rounds each takes.
 pub record InLanes (P : Problem) (k p explained : ℕ) (rounds : List ℕ) : Type 0 where
   pub abducibles : P.abducibles ≡ k
-  pub explains : (l : ℕ) → l < 64 → inLane l explained ≡ P.explains (p + l)
+  pub explains : (l : ℕ) → l < 64 → lane_bit l explained ≡ P.explains (p + l)
   pub costs : (l : ℕ) → l < 64 → get_or rounds l 0 ≡ P.rounds (p + l)
 
 -- The steps of every problem whose scenarios are in the lanes.
 pub record LanesTried (k total explained : ℕ) (rounds : List ℕ) (count : ℕ) (before : Progress) (list : List ℕ) (after : Progress) (left : List ℕ)
     : Type 0 where
   pub advance : Advance total count before list after left
-  pub is : (P : Problem) → InLanes P k before.position explained rounds → steps P count (workOf before list) ≡ workOf after left
+  pub is : (P : Problem) → InLanes P k before.position explained rounds → steps P count (work_of before list) ≡ work_of after left
 
 -- ---- any number of steps of one problem
 
@@ -97,4 +97,4 @@ pub record Batch (most tried allowance position total size : ℕ) : Type 0 where
 
 pub record Tried (P : Problem) (total count : ℕ) (before : Progress) (list : List ℕ) (after : Progress) (left : List ℕ) : Type 0 where
   pub advance : Advance total count before list after left
-  pub is : steps P count (workOf before list) ≡ workOf after left
+  pub is : steps P count (work_of before list) ≡ work_of after left

@@ -1,7 +1,7 @@
 // Parts of scenarios: whether one has only part of another's assumptions, and whether it contains those of a listed entry.
 ghost use Rattle.std.specs.Prelude.{◌≡◌, ◌≤◌, length, take, drop};
 ghost use Rattle.steps.specs.Explanations.{part_of};
-ghost use Rattle.steps.specs.Continuing.{containsOne};
+ghost use Rattle.steps.specs.Continuing.{contains_one};
 
 // Of k digits in base 3, lowest first: each of a's that is not zero is b's.
 pub(crate) fn part_of(k: usize, a: u32, b: u32) -> bool
@@ -27,7 +27,7 @@ pub(crate) fn part_of(k: usize, a: u32, b: u32) -> bool
 // Whether s contains the assumptions of one of the found entries, the first ones left out.
 pub(crate) fn contains_one(k: usize, list: &[u32], first: usize, found: usize, s: u32) -> bool
     requires { found ≤ length list.now }
-    ensures { result ≡ containsOne k (drop first (take found list.now)) s }
+    ensures { result ≡ contains_one k (drop first (take found list.now)) s }
 {
     let mut i = first;
     while i < found {

@@ -12,5 +12,5 @@ module _ (n : ℕ) (l : List ℕ) (i : ℕ) (held : n ≤ length l) where
   pub entries_next : i < n → drop i (take n l) ≡ get_or l i 0 ∷ drop (i + 1) (take n l)
   entries_next h = let e = length-take-le n l held in rw (add-one, drop-cons (take n l) i 0 (omega arith), get_or-take n l i 0 h)
 
-  pub entries-end : n ≤ i → drop i (take n l) ≡ []
-  entries-end h = let e = length-take-le n l held in drop_of_length-le (take n l) {i = i} (omega arith)
+  pub entries_end : n ≤ i → drop i (take n l) ≡ []
+  entries_end h = let e = length-take-le n l held in drop_of_length-le (take n l) {i = i} (omega arith)

@@ -12,10 +12,10 @@ use lib.ListN.{length, take, drop, set, length-set}
 use lib.Seq.{take-take, drop-drop, take-set-le, drop-set-lt, take-suc-set}
 use Rattle.papers.proofs.TestLaws.{is_true, passes}
 use Rattle.steps.specs.Explanations.{Problem, scenarios}
-use Rattle.steps.specs.Continuing.{Record, Move, stands, tries, writes, move, Work, step, steps, recordOf, begun, continue}
+use Rattle.steps.specs.Continuing.{Record, Move, stands, tries, writes, move, Work, step, steps, record_of, begun, continue}
 use Rattle.steps.specs.Spoilt.{rising, all_below}
-use Rattle.steps.proofs.Steps.{move-end, move-writes-tells}
-use Rattle.steps.proofs.Sound.{Sound, rising-last, below_wider, below_last}
+use Rattle.steps.proofs.Steps.{move_end, move_writes_tells}
+use Rattle.steps.proofs.Sound.{Sound, rising_last, below_wider, below_last}
 
 -- "Entries beyond found stay", and so do those found before.
 pub record Keeps (f : ℕ) (l : List ℕ) (f' : ℕ) (l' : List ℕ) : Type 0 where
@@ -58,17 +58,17 @@ module _ (P : Problem) where
       go tries e = rw (e, step) (kept_same s.found s.list)
       go writes e = rw (e, step) (kept_set s.found s.list s.position)
 
-  sound-tried : (p f : ℕ) (l : List ℕ) → p < scenarios P → Sound P (record { position = p; found = f }) l → Sound P (record { position = p + 1; found = f }) l
-  sound-tried p f l h s = record {
+  sound_tried : (p f : ℕ) (l : List ℕ) → p < scenarios P → Sound P (record { position = p; found = f }) l → Sound P (record { position = p + 1; found = f }) l
+  sound_tried p f l h s = record {
     within = omega arith;
     held = s.held;
     rises = s.rises;
     below = rw (add-one p) (is_true (all_below (suc p) (take f l)) (below_wider (take f l) p (passes (all_below p (take f l)) s.below)));
   }
 
-  sound-written : (p f : ℕ) (l : List ℕ) → p < scenarios P → f < length l → Sound P (record { position = p; found = f }) l
+  sound_written : (p f : ℕ) (l : List ℕ) → p < scenarios P → f < length l → Sound P (record { position = p; found = f }) l
       → Sound P (record { position = p + 1; found = f + 1 }) (set l f p)
-  sound-written p f l h g s =
+  sound_written p f l h g s =
       let e : take (f + 1) (set l f p) ≡ take f l ++ p ∷ [] = ap (λ (n : ℕ). take n (set l f p)) (add-one f) ∙ take-suc-set l f p g in
       let below = passes (all_below p (take f l)) s.below in
       let rises = passes (rising 0 (take f l)) s.rises in
@@ -76,47 +76,47 @@ module _ (P : Problem) where
       record {
         within = omega arith;
         held = omega arith;
-        rises = rw e (is_true (rising 0 (take f l ++ p ∷ [])) (rising-last 0 (take f l) p (omega arith) rises below));
+        rises = rw e (is_true (rising 0 (take f l ++ p ∷ [])) (rising_last 0 (take f l) p (omega arith) rises below));
         below = rw (e, add-one p) (is_true (all_below (suc p) (take f l ++ p ∷ [])) (below_last (take f l) p below));
       }
 
-  sound-step : (s : Work) → Sound P (recordOf s) s.list → Sound P (recordOf (step P s)) (step P s).list
+  sound_step : (s : Work) → Sound P (record_of s) s.list → Sound P (record_of (step P s)) (step P s).list
   unfolding step
-  sound-step s h = go (move P s.position s.found s.list) refl
+  sound_step s h = go (move P s.position s.found s.list) refl
     where
       p : ℕ
       p = s.position
 
       inside : (m : Move) → (m ≡ stands → ⊥) → move P p s.found s.list ≡ m → p < scenarios P
       inside m n e = elim (ℕ_discrete p (scenarios P)) [
-        | yes q ↦ absurd (n (sym e ∙ move-end P p s.found s.list q))
+        | yes q ↦ absurd (n (sym e ∙ move_end P p s.found s.list q))
         | no q ↦ (let w = h.within in omega arith)
       ]
 
-      go : (m : Move) → move P p s.found s.list ≡ m → Sound P (recordOf (step P s)) (step P s).list
+      go : (m : Move) → move P p s.found s.list ≡ m → Sound P (record_of (step P s)) (step P s).list
       go stands e = rw (e, step) h
-      go tries e = rw (e, step) (sound-tried p s.found s.list (inside tries (λ q. true≢false cc) e) h)
+      go tries e = rw (e, step) (sound_tried p s.found s.list (inside tries (λ q. true≢false cc) e) h)
       go writes e =
           rw (e, step)
-          (sound-written p s.found s.list (inside writes (λ q. true≢false cc) e) (move-writes-tells P p s.found s.list e) h)
+          (sound_written p s.found s.list (inside writes (λ q. true≢false cc) e) (move_writes_tells P p s.found s.list e) h)
 
   -- ---- a call
 
-  kept-steps : (w : ℕ) (s : Work) → Keeps s.found s.list (steps P w s).found (steps P w s).list
+  kept_steps : (w : ℕ) (s : Work) → Keeps s.found s.list (steps P w s).found (steps P w s).list
   unfolding steps
-  kept-steps zero s = kept_same s.found s.list
-  kept-steps (suc w) s = kept_then (kept_step s) (kept-steps w (step P s))
+  kept_steps zero s = kept_same s.found s.list
+  kept_steps (suc w) s = kept_then (kept_step s) (kept_steps w (step P s))
 
-  sound-steps : (w : ℕ) (s : Work) → Sound P (recordOf s) s.list → Sound P (recordOf (steps P w s)) (steps P w s).list
+  sound_steps : (w : ℕ) (s : Work) → Sound P (record_of s) s.list → Sound P (record_of (steps P w s)) (steps P w s).list
   unfolding steps
-  sound-steps zero s h = h
-  sound-steps (suc w) s h = sound-steps w (step P s) (sound-step s h)
+  sound_steps zero s h = h
+  sound_steps (suc w) s h = sound_steps w (step P s) (sound_step s h)
 
-  pub continue-keeps : (w : ℕ) (r : Record) (l : List ℕ) → Keeps r.found l (continue P w r l).new.found (continue P w r l).list
+  pub continue_keeps : (w : ℕ) (r : Record) (l : List ℕ) → Keeps r.found l (continue P w r l).new.found (continue P w r l).list
   unfolding continue
-  continue-keeps w r l = kept-steps w (begun r l)
+  continue_keeps w r l = kept_steps w (begun r l)
 
   -- What passes test 14 passes it after the call.
-  pub continue-sound : (w : ℕ) (r : Record) (l : List ℕ) → Sound P r l → Sound P (continue P w r l).new (continue P w r l).list
+  pub continue_sound : (w : ℕ) (r : Record) (l : List ℕ) → Sound P r l → Sound P (continue P w r l).new (continue P w r l).list
   unfolding continue
-  continue-sound w r l h = sound-steps w (begun r l) h
+  continue_sound w r l h = sound_steps w (begun r l) h

@@ -18,7 +18,7 @@ pub mod Steps
 pub mod Runs
 -- The general rule, from any record that passes test 14.
 pub mod General
--- `stopFrom` is the stopping point in the words of document 01.
+-- `stop_from` is the stopping point in the words of document 01.
 pub mod First
 -- From the fresh record: the state at each position.
 pub mod Canonical

@@ -8,7 +8,7 @@ use lib.ListN.{get_or}
 use Rattle.steps.specs.Explanations.{Problem, minimals, stop}
 use Rattle.steps.specs.declared.State.{State}
 use Rattle.steps.specs.declared.State.TheVariants.{Ended, Full, Going}
-use Rattle.steps.specs.Continuing.{Record, fresh, Report, continue, stopFrom}
+use Rattle.steps.specs.Continuing.{Record, fresh, Report, continue, stop_from}
 use Rattle.steps.specs.Spoilt.{spoilt}
 use Rattle.steps.specs.Calls.{Call, refusal, report, calls}
 use Rattle.steps.specs.ComputingSearches.{computing}
@@ -34,42 +34,42 @@ short allowance = record { allowance = allowance; refused = true }
 five : Problem
 five = problem (false ∷ true ∷ false ∷ false ∷ true ∷ true ∷ true ∷ false ∷ true ∷ [])
 
-five-minimals : minimals five 9 ≡ 1 ∷ 5 ∷ 6 ∷ []
+five_minimals : minimals five 9 ≡ 1 ∷ 5 ∷ 6 ∷ []
 unfolding computing five problem
-five-minimals = refl
+five_minimals = refl
 
-five-stops : stop five 0 ∷ stop five 1 ∷ stop five 2 ∷ stop five 3 ∷ [] ≡ 1 ∷ 5 ∷ 6 ∷ 9 ∷ []
+five_stops : stop five 0 ∷ stop five 1 ∷ stop five 2 ∷ stop five 3 ∷ [] ≡ 1 ∷ 5 ∷ 6 ∷ 9 ∷ []
 unfolding computing five problem
-five-stops = refl
+five_stops = refl
 
 -- The whole search in one call; the entry beyond those found stays.
-five-whole : continue five 100 fresh (7 ∷ 7 ∷ 7 ∷ 7 ∷ []) ≡ told 9 3 (1 ∷ 5 ∷ 6 ∷ 7 ∷ []) 9 45 Ended
+five_whole : continue five 100 fresh (7 ∷ 7 ∷ 7 ∷ 7 ∷ []) ≡ told 9 3 (1 ∷ 5 ∷ 6 ∷ 7 ∷ []) 9 45 Ended
 unfolding computing five problem at told
-five-whole = refl
+five_whole = refl
 
 -- In calls, one of them refused, with room for two.
-five-calls : calls five (made 3 ∷ short 50 ∷ made 50 ∷ []) fresh (7 ∷ 7 ∷ [])
+five_calls : calls five (made 3 ∷ short 50 ∷ made 50 ∷ []) fresh (7 ∷ 7 ∷ [])
     ≡ record {
       last = at 6 2;
       list = 1 ∷ 5 ∷ [];
       answers = report (told 3 1 (1 ∷ 7 ∷ []) 3 6 Going) ∷ refusal ∷ report (told 6 2 (1 ∷ 5 ∷ []) 3 15 Full) ∷ [];
     }
 unfolding computing five problem at told made short
-five-calls = refl
+five_calls = refl
 
 -- No call at all.
-five-none : calls five [] fresh (7 ∷ []) ≡ record { last = fresh; list = 7 ∷ []; answers = [] }
+five_none : calls five [] fresh (7 ∷ []) ≡ record { last = fresh; list = 7 ∷ []; answers = [] }
 unfolding computing
-five-none = refl
+five_none = refl
 
 -- Not reached from a fresh search: with 2 listed, 5 and 8 are not new, and 1 is not looked for.
-five-general : continue five 100 (at 3 1) (2 ∷ 7 ∷ 7 ∷ []) ≡ told 9 3 (2 ∷ 4 ∷ 6 ∷ []) 6 39 Ended
+five_general : continue five 100 (at 3 1) (2 ∷ 7 ∷ 7 ∷ []) ≡ told 9 3 (2 ∷ 4 ∷ 6 ∷ []) 6 39 Ended
 unfolding computing five problem at told
-five-general = refl
+five_general = refl
 
-five-stopFrom : stopFrom five (at 3 1) (2 ∷ 7 ∷ []) ≡ 6
+five_stop_from : stop_from five (at 3 1) (2 ∷ 7 ∷ []) ≡ 6
 unfolding computing five problem at
-five-stopFrom = refl
+five_stop_from = refl
 
 -- ---- test 14
 
@@ -84,24 +84,24 @@ tests =
     ∷ spoilt five (at 6 2) (1 ∷ 5 ∷ 0 ∷ [])
     ∷ []
 
-five-spoilt : tests ≡ true ∷ true ∷ true ∷ true ∷ true ∷ false ∷ []
+five_spoilt : tests ≡ true ∷ true ∷ true ∷ true ∷ true ∷ false ∷ []
 unfolding computing tests five problem at
-five-spoilt = refl
+five_spoilt = refl
 
 -- ---- "not p4 with L = 1: allowance 9 tries 3, full; then 5 tries 0, full; then 0 tries 0, going": the minimal ones are 1 and 3
 
 two : Problem
 two = problem (false ∷ true ∷ false ∷ true ∷ true ∷ false ∷ false ∷ false ∷ false ∷ [])
 
-two-minimals : minimals two 9 ≡ 1 ∷ 3 ∷ []
+two_minimals : minimals two 9 ≡ 1 ∷ 3 ∷ []
 unfolding computing two problem
-two-minimals = refl
+two_minimals = refl
 
-two-calls : calls two (made 9 ∷ made 5 ∷ made 0 ∷ []) fresh (7 ∷ [])
+two_calls : calls two (made 9 ∷ made 5 ∷ made 0 ∷ []) fresh (7 ∷ [])
     ≡ record {
       last = at 3 1;
       list = 1 ∷ [];
       answers = report (told 3 1 (1 ∷ []) 3 6 Full) ∷ report (told 3 1 (1 ∷ []) 0 0 Full) ∷ report (told 3 1 (1 ∷ []) 0 0 Going) ∷ [];
     }
 unfolding computing two problem at told made
-two-calls = refl
+two_calls = refl

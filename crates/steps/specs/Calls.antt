@@ -22,13 +22,13 @@ answer P c r list = elim (c.refused or spoilt P r list) [
 ]
 
 -- The record and the list after a call: "a refused call .. passes its record on unchanged".
-abbrev pub recordAfter : Record → Answer → Record
-recordAfter r refusal = r
-recordAfter r (report x) = x.new
+abbrev pub record_after : Record → Answer → Record
+record_after r refusal = r
+record_after r (report x) = x.new
 
-abbrev pub listAfter : List ℕ → Answer → List ℕ
-listAfter list refusal = list
-listAfter list (report x) = x.list
+abbrev pub list_after : List ℕ → Answer → List ℕ
+list_after list refusal = list
+list_after list (report x) = x.list
 
 -- What a list of calls leaves, and the answer of each.
 pub record Called : Type 0 where
@@ -43,18 +43,18 @@ unfoldable pub calls : Problem → List Call → Record → List ℕ → Called
 calls P [] r list = record { last = r; list = list; answers = [] }
 calls P (c ∷ cs) r list =
     let a = answer P c r list in
-    first a (calls P cs (recordAfter r a) (listAfter list a))
+    first a (calls P cs (record_after r a) (list_after list a))
 
 -- "A refused call adds nothing to the sums": the tried counts of the answers added up, and the rounds.
-unfoldable pub triedBy : List Answer → ℕ
-triedBy [] = 0
-triedBy (refusal ∷ more) = triedBy more
-triedBy (report x ∷ more) = x.tried + triedBy more
+unfoldable pub tried_by : List Answer → ℕ
+tried_by [] = 0
+tried_by (refusal ∷ more) = tried_by more
+tried_by (report x ∷ more) = x.tried + tried_by more
 
-unfoldable pub roundsBy : List Answer → ℕ
-roundsBy [] = 0
-roundsBy (refusal ∷ more) = roundsBy more
-roundsBy (report x ∷ more) = x.rounds + roundsBy more
+unfoldable pub rounds_by : List Answer → ℕ
+rounds_by [] = 0
+rounds_by (refusal ∷ more) = rounds_by more
+rounds_by (report x ∷ more) = x.rounds + rounds_by more
 
 -- The allowances of the calls that are not refused, added up.
 unfoldable pub allowances : List Call → ℕ

@@ -16,12 +16,12 @@ all_below position (entry ∷ more) = ltb entry position and all_below position 
 
 -- 14: "position above 3^k, found above list length, or the first found entries not strictly rising or not all below position", where
 -- 3^k is `total`.
-unfoldable pub spoiltBy : ℕ → Record → List ℕ → Bool
-spoiltBy total r list =
+unfoldable pub spoilt_by : ℕ → Record → List ℕ → Bool
+spoilt_by total r list =
     ltb total r.position
     or (ltb (length list) r.found
     or (not (rising 0 (take r.found list))
     or not (all_below r.position (take r.found list))))
 
 abbrev pub spoilt : Problem → Record → List ℕ → Bool
-spoilt P = spoiltBy (scenarios P)
+spoilt P = spoilt_by (scenarios P)

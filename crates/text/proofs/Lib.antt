@@ -25,7 +25,7 @@ pub mod RoundTrip
 pub mod Spacing
 -- Which numbers: 3, 8, 9, 17 and 18 refuse a text, and no other.
 pub mod Refusals
--- Agreement with `readFile`: what the checks of a typed program refuse, `readFile` refuses by the same number.
+-- Agreement with `read_file`: what the checks of a typed program refuse, `read_file` refuses by the same number.
 pub mod Agreed
 -- ---- what the passes use
 -- Importing as code that goes by passes meets it, and how many abducibles there are.

@@ -8,12 +8,12 @@ use Rattle.text.specs.Lines.{Reading, accepted, refused, passing, and_then}
 
 module _ {A : Type 0} where
   -- A refusal is no acceptance.
-  pub refused-not : {X : Type 0} {r : TextRefusal} {a : A} → refused r ≡ accepted a → X
-  refused-not e = absurd (let z : ◌≡◌ {A = ℕ} 0 1 = cc in omega arith)
+  pub refused_not : {X : Type 0} {r : TextRefusal} {a : A} → refused r ≡ accepted a → X
+  refused_not e = absurd (let z : ◌≡◌ {A = ℕ} 0 1 = cc in omega arith)
 
   pub passed : (n place : ℕ) (next : Reading A) {a : A} → passing n place next ≡ accepted a → (n ≡ 0) × (next ≡ accepted a)
   passed zero place next e = (refl, e)
-  passed (suc n) place next e = refused-not e
+  passed (suc n) place next e = refused_not e
 
 module _ {A B : Type 0} where
   pub record Through (o : Reading A) (next : A → Reading B) (b : B) : Type 0 where
@@ -23,4 +23,4 @@ module _ {A B : Type 0} where
 
   pub through : (o : Reading A) (next : A → Reading B) {b : B} → and_then o next ≡ accepted b → Through o next b
   through (accepted a) next e = record { value = a; first = refl; after = e }
-  through (refused r) next e = refused-not e
+  through (refused r) next e = refused_not e

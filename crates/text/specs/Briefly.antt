@@ -5,8 +5,8 @@ use Rattle.text.specs.declared.line.Stage.{Stage}
 use Rattle.text.specs.declared.line.Stage.TheVariants as stage
 use Rattle.text.specs.declared.line.Move.{Move}
 use Rattle.text.specs.declared.line.Move.TheVariants.{Goes, Ends, Bars}
-use Rattle.text.specs.Lines.{Line, abducible, rule, integrity, State, fresh, declaring, declared, negated, headed, due, denied, negatedIn}
-use Rattle.text.specs.Lines.{deniedNegated, said, Step, goes, ends, bars, isAtom, isMinus, isNot, isArrow, isComma, isStop, isAbducible, isFalse}
+use Rattle.text.specs.Lines.{Line, abducible, rule, integrity, State, fresh, declaring, declared, negated, headed, due, denied, negated_in}
+use Rattle.text.specs.Lines.{denied_negated, said, Step, goes, ends, bars, is_atom, is_minus, is_not, is_arrow, is_comma, is_stop, is_abducible, is_false}
 use Rattle.text.specs.Typed.{named_in, larger, count_of}
 
 -- The tag of the field to which a line belongs, the place of its first token, and its numbers there.
@@ -20,87 +20,87 @@ start_of (abducible start a) = start
 start_of (rule start head body) = start
 start_of (integrity start body) = start
 
-unfoldable pub numbersOf : Line → List ℕ
-numbersOf (abducible start a) = a ∷ []
-numbersOf (rule start head body) = head ∷ body
-numbersOf (integrity start body) = body
+unfoldable pub numbers_of : Line → List ℕ
+numbers_of (abducible start a) = a ∷ []
+numbers_of (rule start head body) = head ∷ body
+numbers_of (integrity start body) = body
 
 -- How many, 18 standing for 18 or more: no field has so many numbers.
 unfoldable pub few : ℕ → ℕ
 few n = cond (ltb n 18) n 18
 
 -- The atom that a line declares, or that of its head.
-unfoldable pub atomOf : Line → ℕ
-atomOf (abducible start a) = a
-atomOf (rule start head body) = head / 2
-atomOf (integrity start body) = 0
+unfoldable pub atom_of : Line → ℕ
+atom_of (abducible start a) = a
+atom_of (rule start head body) = head / 2
+atom_of (integrity start body) = 0
 
 abbrev pub briefly : ℕ → ℕ → ℕ → ℕ → ℕ → Brief
 briefly tag start atom above count = record { tag = tag; start = start; atom = atom; above = above; count = count }
 
 -- A line, briefly.
 unfoldable pub brief : Line → Brief
-brief line = briefly (tag_of line) (start_of line) (atomOf line) (count_of (named_in (line ∷ []))) (few (length (numbersOf line)))
+brief line = briefly (tag_of line) (start_of line) (atom_of line) (count_of (named_in (line ∷ []))) (few (length (numbers_of line)))
 
-abbrev pub stageOf : State → Stage
-stageOf fresh = stage.Fresh
-stageOf (declaring start) = stage.Declaring start
-stageOf (declared line) = stage.Declared (brief line)
-stageOf (negated start) = stage.Negated start
-stageOf (headed line) = stage.Headed (brief line)
-stageOf (due line) = stage.Due (brief line)
-stageOf (denied line) = stage.Denied (brief line)
-stageOf (negatedIn line) = stage.NegatedIn (brief line)
-stageOf (deniedNegated line) = stage.DeniedNegated (brief line)
-stageOf (said line) = stage.Said (brief line)
+abbrev pub stage_of : State → Stage
+stage_of fresh = stage.Fresh
+stage_of (declaring start) = stage.Declaring start
+stage_of (declared line) = stage.Declared (brief line)
+stage_of (negated start) = stage.Negated start
+stage_of (headed line) = stage.Headed (brief line)
+stage_of (due line) = stage.Due (brief line)
+stage_of (denied line) = stage.Denied (brief line)
+stage_of (negated_in line) = stage.NegatedIn (brief line)
+stage_of (denied_negated line) = stage.DeniedNegated (brief line)
+stage_of (said line) = stage.Said (brief line)
 
 abbrev pub move_of : Step → Move
-move_of (goes s) = Goes (stageOf s)
+move_of (goes s) = Goes (stage_of s)
 move_of (ends line) = Ends (brief line)
 move_of bars = Bars
 
 -- A line that begins with `false`, and one that begins with an atom.
-abbrev pub denialBriefly : ℕ → Brief
-denialBriefly start = briefly 0x05 start 0 1 0
+abbrev pub denial_briefly : ℕ → Brief
+denial_briefly start = briefly 0x05 start 0 1 0
 
-abbrev pub openedBriefly : ℕ → ℕ → ℕ → Brief
-openedBriefly tag start a = briefly tag start a (a + 1) 1
+abbrev pub opened_briefly : ℕ → ℕ → ℕ → Brief
+opened_briefly tag start a = briefly tag start a (a + 1) 1
 
 -- One more literal, of an atom.
-unfoldable pub alsoBriefly : Brief → ℕ → Brief
-alsoBriefly b a = cond (eqb b.tag 0x03) b (briefly b.tag b.start b.atom (larger b.above (a + 1)) (few (b.count + 1)))
+unfoldable pub also_briefly : Brief → ℕ → Brief
+also_briefly b a = cond (eqb b.tag 0x03) b (briefly b.tag b.start b.atom (larger b.above (a + 1)) (few (b.count + 1)))
 
 -- What a token does.
-unfoldable pub stepBriefly : Stage → ℕ → ℕ → ℕ → Move
-stepBriefly stage.Fresh place kind a =
-    cond (isAbducible kind) (Goes (stage.Declaring place))
-    (cond (isFalse kind) (Goes (stage.Headed (denialBriefly place)))
-    (cond (isMinus kind) (Goes (stage.Negated place))
-    (cond (isAtom kind) (Goes (stage.Headed (openedBriefly 0x04 place a))) Bars)))
-stepBriefly (stage.Declaring start) place kind a = cond (isAtom kind) (Goes (stage.Declared (openedBriefly 0x03 start a))) Bars
-stepBriefly (stage.Declared b) place kind a = cond (isStop kind) (Ends b) Bars
-stepBriefly (stage.Negated start) place kind a = cond (isAtom kind) (Goes (stage.Headed (openedBriefly 0x04 start a))) Bars
-stepBriefly (stage.Headed b) place kind a = cond (isStop kind) (Ends b) (cond (isArrow kind) (Goes (stage.Due b)) Bars)
-stepBriefly (stage.Due b) place kind a =
-    cond (isNot kind) (Goes (stage.Denied b))
-    (cond (isMinus kind) (Goes (stage.NegatedIn b))
-    (cond (isAtom kind) (Goes (stage.Said (alsoBriefly b a))) Bars))
-stepBriefly (stage.Denied b) place kind a =
-    cond (isMinus kind) (Goes (stage.DeniedNegated b))
-    (cond (isAtom kind) (Goes (stage.Said (alsoBriefly b a))) Bars)
-stepBriefly (stage.NegatedIn b) place kind a = cond (isAtom kind) (Goes (stage.Said (alsoBriefly b a))) Bars
-stepBriefly (stage.DeniedNegated b) place kind a = cond (isAtom kind) (Goes (stage.Said (alsoBriefly b a))) Bars
-stepBriefly (stage.Said b) place kind a = cond (isComma kind) (Goes (stage.Due b)) (cond (isStop kind) (Ends b) Bars)
+unfoldable pub step_briefly : Stage → ℕ → ℕ → ℕ → Move
+step_briefly stage.Fresh place kind a =
+    cond (is_abducible kind) (Goes (stage.Declaring place))
+    (cond (is_false kind) (Goes (stage.Headed (denial_briefly place)))
+    (cond (is_minus kind) (Goes (stage.Negated place))
+    (cond (is_atom kind) (Goes (stage.Headed (opened_briefly 0x04 place a))) Bars)))
+step_briefly (stage.Declaring start) place kind a = cond (is_atom kind) (Goes (stage.Declared (opened_briefly 0x03 start a))) Bars
+step_briefly (stage.Declared b) place kind a = cond (is_stop kind) (Ends b) Bars
+step_briefly (stage.Negated start) place kind a = cond (is_atom kind) (Goes (stage.Headed (opened_briefly 0x04 start a))) Bars
+step_briefly (stage.Headed b) place kind a = cond (is_stop kind) (Ends b) (cond (is_arrow kind) (Goes (stage.Due b)) Bars)
+step_briefly (stage.Due b) place kind a =
+    cond (is_not kind) (Goes (stage.Denied b))
+    (cond (is_minus kind) (Goes (stage.NegatedIn b))
+    (cond (is_atom kind) (Goes (stage.Said (also_briefly b a))) Bars))
+step_briefly (stage.Denied b) place kind a =
+    cond (is_minus kind) (Goes (stage.DeniedNegated b))
+    (cond (is_atom kind) (Goes (stage.Said (also_briefly b a))) Bars)
+step_briefly (stage.NegatedIn b) place kind a = cond (is_atom kind) (Goes (stage.Said (also_briefly b a))) Bars
+step_briefly (stage.DeniedNegated b) place kind a = cond (is_atom kind) (Goes (stage.Said (also_briefly b a))) Bars
+step_briefly (stage.Said b) place kind a = cond (is_comma kind) (Goes (stage.Due b)) (cond (is_stop kind) (Ends b) Bars)
 
 -- Whether no token of the line was read.
-abbrev pub isFresh : Stage → Bool
-isFresh stage.Fresh = true
-isFresh (stage.Declaring start) = false
-isFresh (stage.Declared b) = false
-isFresh (stage.Negated start) = false
-isFresh (stage.Headed b) = false
-isFresh (stage.Due b) = false
-isFresh (stage.Denied b) = false
-isFresh (stage.NegatedIn b) = false
-isFresh (stage.DeniedNegated b) = false
-isFresh (stage.Said b) = false
+abbrev pub is_fresh : Stage → Bool
+is_fresh stage.Fresh = true
+is_fresh (stage.Declaring start) = false
+is_fresh (stage.Declared b) = false
+is_fresh (stage.Negated start) = false
+is_fresh (stage.Headed b) = false
+is_fresh (stage.Due b) = false
+is_fresh (stage.Denied b) = false
+is_fresh (stage.NegatedIn b) = false
+is_fresh (stage.DeniedNegated b) = false
+is_fresh (stage.Said b) = false

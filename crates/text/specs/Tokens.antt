@@ -5,21 +5,21 @@ use Rattle.text.specs.declared.Scanned.{Scanned}
 use Rattle.text.specs.declared.Scanned.TheVariants.{Token, Stray, End}
 
 -- "Spaces (20) and line ends (0D, 0A)".
-unfoldable pub isBlank : ℕ → Bool
-isBlank b = eqb b 0x20 || (eqb b 0x0D || eqb b 0x0A)
+unfoldable pub is_blank : ℕ → Bool
+is_blank b = eqb b 0x20 || (eqb b 0x0D || eqb b 0x0A)
 
-unfoldable pub isDigit : ℕ → Bool
-isDigit b = leb 0x30 b && leb b 0x39
+unfoldable pub is_digit : ℕ → Bool
+is_digit b = leb 0x30 b && leb b 0x39
 
 -- The digits that these bytes begin with, each as its number.
 unfoldable pub digits : List ℕ → List ℕ
 digits [] = []
-digits (b ∷ more) = cond (isDigit b) ((b - 0x30) ∷ digits more) []
+digits (b ∷ more) = cond (is_digit b) ((b - 0x30) ∷ digits more) []
 
 -- The digit that these bytes begin with, and 10 where they begin with none.
-unfoldable pub digitOf : List ℕ → ℕ
-digitOf [] = 10
-digitOf (b ∷ more) = cond (isDigit b) (b - 0x30) 10
+unfoldable pub digit_of : List ℕ → ℕ
+digit_of [] = 10
+digit_of (b ∷ more) = cond (is_digit b) (b - 0x30) 10
 
 -- The number that digits write after this one.
 unfoldable pub value : ℕ → List ℕ → ℕ
@@ -27,10 +27,10 @@ value n [] = n
 value n (d ∷ more) = value (10 * n + d) more
 
 -- "Atoms are p0 to p255; .. above 255 or .. a leading zero starts no permitted token": the digits of an atom.
-unfoldable pub atomAllowed : List ℕ → Bool
-atomAllowed [] = false
-atomAllowed (d ∷ []) = true
-atomAllowed (d ∷ e ∷ more) = not (eqb d 0) && leb (value 0 (d ∷ e ∷ more)) 255
+unfoldable pub atom_allowed : List ℕ → Bool
+atom_allowed [] = false
+atom_allowed (d ∷ []) = true
+atom_allowed (d ∷ e ∷ more) = not (eqb d 0) && leb (value 0 (d ∷ e ∷ more)) 255
 
 -- Whether the bytes begin with this word.
 unfoldable pub begins : List ℕ → List ℕ → Bool
@@ -48,27 +48,27 @@ word_size [] bytes = 0
 word_size (word ∷ more) bytes = cond (begins word bytes) (length word) (word_size more bytes)
 
 -- "All digits after the p belong to it": the size of an atom with these digits.
-unfoldable pub atomSize : List ℕ → ℕ
-atomSize digits = cond (atomAllowed digits) (1 + length digits) 0
+unfoldable pub atom_size : List ℕ → ℕ
+atom_size digits = cond (atom_allowed digits) (1 + length digits) 0
 
 -- The size of the permitted token that the bytes begin with; 0 where they begin with none.
-unfoldable pub tokenSize : List ℕ → ℕ
-tokenSize bytes = cond (eqb (get_or bytes 0 0) 0x70) (atomSize (digits (drop 1 bytes))) (word_size words bytes)
+unfoldable pub token_size : List ℕ → ℕ
+token_size bytes = cond (eqb (get_or bytes 0 0) 0x70) (atom_size (digits (drop 1 bytes))) (word_size words bytes)
 
 -- The number after the first character: an atom's, and 0 for any other token.
-unfoldable pub numberAfter : List ℕ → ℕ
-numberAfter bytes = cond (eqb (get_or bytes 0 0) 0x70) (value 0 (digits (drop 1 bytes))) 0
+unfoldable pub number_after : List ℕ → ℕ
+number_after bytes = cond (eqb (get_or bytes 0 0) 0x70) (value 0 (digits (drop 1 bytes))) 0
 
 -- The token that the bytes from a place on begin with.
-unfoldable pub tokenHere : ℕ → List ℕ → Scanned
-tokenHere place bytes =
-    cond (eqb (tokenSize bytes) 0) (Stray place)
-    (Token (get_or bytes 0 0) (numberAfter bytes) place (place + tokenSize bytes))
+unfoldable pub token_here : ℕ → List ℕ → Scanned
+token_here place bytes =
+    cond (eqb (token_size bytes) 0) (Stray place)
+    (Token (get_or bytes 0 0) (number_after bytes) place (place + token_size bytes))
 
 -- The next token, where these are the bytes from a place on: "spaces and line ends may stand before and after any token".
-unfoldable pub nextToken : ℕ → List ℕ → Scanned
-nextToken place [] = End place
-nextToken place (b ∷ more) = cond (isBlank b) (nextToken (place + 1) more) (tokenHere place (b ∷ more))
+unfoldable pub next_token : ℕ → List ℕ → Scanned
+next_token place [] = End place
+next_token place (b ∷ more) = cond (is_blank b) (next_token (place + 1) more) (token_here place (b ∷ more))
 
 -- A text as its tokens, each with its place, its kind and its number, up to the end or the first character that starts none.
 pub data Tokens : Type 0 where
@@ -76,18 +76,18 @@ pub data Tokens : Type 0 where
   stray : ℕ → Tokens
   end : ℕ → Tokens
 
-abbrev pub tokenThen : ℕ → List ℕ → (ℕ → Tokens) → ℕ → Tokens
-tokenThen place bytes later zero = stray place
-tokenThen place bytes later (suc size) = token place (get_or bytes 0 0) (numberAfter bytes) (later size)
+abbrev pub token_then : ℕ → List ℕ → (ℕ → Tokens) → ℕ → Tokens
+token_then place bytes later zero = stray place
+token_then place bytes later (suc size) = token place (get_or bytes 0 0) (number_after bytes) (later size)
 
 -- The tokens of the bytes from a place on, of which the first `taken` belong to the token before.
-unfoldable pub tokensFrom : ℕ → ℕ → List ℕ → Tokens
-tokensFrom place taken [] = end place
-tokensFrom place (suc taken) (b ∷ more) = tokensFrom (place + 1) taken more
-tokensFrom place zero (b ∷ more) =
-    let skipped = tokensFrom (place + 1) 0 more in
-    let found = tokenThen place (b ∷ more) (λ taken. tokensFrom (place + 1) taken more) (tokenSize (b ∷ more)) in
-    cond (isBlank b) skipped found
+unfoldable pub tokens_from : ℕ → ℕ → List ℕ → Tokens
+tokens_from place taken [] = end place
+tokens_from place (suc taken) (b ∷ more) = tokens_from (place + 1) taken more
+tokens_from place zero (b ∷ more) =
+    let skipped = tokens_from (place + 1) 0 more in
+    let found = token_then place (b ∷ more) (λ taken. tokens_from (place + 1) taken more) (token_size (b ∷ more)) in
+    cond (is_blank b) skipped found
 
 abbrev pub tokens : List ℕ → Tokens
-tokens text = tokensFrom 0 0 text
+tokens text = tokens_from 0 0 text

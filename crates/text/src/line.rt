@@ -1,9 +1,9 @@
 // One line of a text: the automaton of its form, and what it says.
 ghost use Rattle.std.specs.Prelude.{◌≡◌, cond, ◌+◌, ◌≤◌, ◌<◌, length};
-ghost use Rattle.text.specs.Lines.{fresh, isAtom};
+ghost use Rattle.text.specs.Lines.{fresh, is_atom};
 ghost use Rattle.text.specs.Typed.{larger};
-ghost use Rattle.text.specs.Briefly.{few, denialBriefly, openedBriefly, alsoBriefly, stepBriefly, isFresh};
-ghost use Rattle.text.specs.LineAnswers.{endedBriefly, LineTells};
+ghost use Rattle.text.specs.Briefly.{few, denial_briefly, opened_briefly, also_briefly, step_briefly, is_fresh};
+ghost use Rattle.text.specs.LineAnswers.{ended_briefly, LineTells};
 ghost use Rattle.text.specs.declared.line.Stage.TheVariants as stage;
 ghost use Rattle.text.specs.declared.line.Move.TheVariants.{Goes, Bars};
 
@@ -45,7 +45,7 @@ pub enum Move {
 
 // A line that begins with `false`, and one that begins with an atom.
 fn denial(start: usize) -> Brief
-    ensures { result ≡ denialBriefly start }
+    ensures { result ≡ denial_briefly start }
 {
     Brief {
         tag: 5,
@@ -58,7 +58,7 @@ fn denial(start: usize) -> Brief
 
 fn opened(tag: u8, start: usize, atom: usize) -> Brief
     requires { atom ≤ 255 }
-    ensures { result ≡ openedBriefly tag start atom }
+    ensures { result ≡ opened_briefly tag start atom }
 {
     Brief {
         tag,
@@ -85,7 +85,7 @@ fn one_more(count: usize) -> usize
 // The line with one more literal. A declaration takes none.
 fn also(line: Brief, atom: usize) -> Brief
     requires { atom ≤ 255 }
-    ensures { result ≡ alsoBriefly line atom }
+    ensures { result ≡ also_briefly line atom }
 {
     if line.tag == 3 {
         return line;
@@ -102,7 +102,7 @@ fn also(line: Brief, atom: usize) -> Brief
 // What a token does before a line.
 fn begun(place: usize, kind: u8, atom: usize) -> Move
     requires { atom ≤ 255 }
-    ensures { result ≡ stepBriefly stage.Fresh place kind atom }
+    ensures { result ≡ step_briefly stage.Fresh place kind atom }
 {
     if kind == 0x61 {
         return Move::Goes(Stage::Declaring(place));
@@ -122,7 +122,7 @@ fn begun(place: usize, kind: u8, atom: usize) -> Move
 // After `abducible`.
 fn declared(start: usize, kind: u8, atom: usize) -> Move
     requires { atom ≤ 255 }
-    ensures { result ≡ stepBriefly (stage.Declaring start) 0 kind atom }
+    ensures { result ≡ step_briefly (stage.Declaring start) 0 kind atom }
 {
     if kind == 0x70 {
         return Move::Goes(Stage::Declared(opened(3, start, atom)));
@@ -132,7 +132,7 @@ fn declared(start: usize, kind: u8, atom: usize) -> Move
 
 // After a declaration: the full stop.
 fn stopped(line: Brief, kind: u8) -> Move
-    ensures { result ≡ stepBriefly (stage.Declared line) 0 kind 0 }
+    ensures { result ≡ step_briefly (stage.Declared line) 0 kind 0 }
 {
     if kind == 0x2E {
         return Move::Ends(line);
@@ -143,7 +143,7 @@ fn stopped(line: Brief, kind: u8) -> Move
 // After the `-` of a head.
 fn headed(start: usize, kind: u8, atom: usize) -> Move
     requires { atom ≤ 255 }
-    ensures { result ≡ stepBriefly (stage.Negated start) 0 kind atom }
+    ensures { result ≡ step_briefly (stage.Negated start) 0 kind atom }
 {
     if kind == 0x70 {
         return Move::Goes(Stage::Headed(opened(4, start, atom)));
@@ -154,7 +154,7 @@ fn headed(start: usize, kind: u8, atom: usize) -> Move
 // Where the atom of a literal is due.
 fn said(line: Brief, kind: u8, atom: usize) -> Move
     requires { atom ≤ 255 }
-    ensures { result ≡ cond (isAtom kind) (Goes (stage.Said (alsoBriefly line atom))) Bars }
+    ensures { result ≡ cond (is_atom kind) (Goes (stage.Said (also_briefly line atom))) Bars }
 {
     if kind == 0x70 {
         return Move::Goes(Stage::Said(also(line, atom)));
@@ -165,7 +165,7 @@ fn said(line: Brief, kind: u8, atom: usize) -> Move
 // Where a literal is due.
 fn due(line: Brief, kind: u8, atom: usize) -> Move
     requires { atom ≤ 255 }
-    ensures { result ≡ stepBriefly (stage.Due line) 0 kind atom }
+    ensures { result ≡ step_briefly (stage.Due line) 0 kind atom }
 {
     if kind == 0x6E {
         return Move::Goes(Stage::Denied(line));
@@ -179,7 +179,7 @@ fn due(line: Brief, kind: u8, atom: usize) -> Move
 // After a literal's `not`.
 fn denied(line: Brief, kind: u8, atom: usize) -> Move
     requires { atom ≤ 255 }
-    ensures { result ≡ stepBriefly (stage.Denied line) 0 kind atom }
+    ensures { result ≡ step_briefly (stage.Denied line) 0 kind atom }
 {
     if kind == 0x2D {
         return Move::Goes(Stage::DeniedNegated(line));
@@ -189,7 +189,7 @@ fn denied(line: Brief, kind: u8, atom: usize) -> Move
 
 // After a head: the full stop, or `:-`.
 fn closed(line: Brief, kind: u8) -> Move
-    ensures { result ≡ stepBriefly (stage.Headed line) 0 kind 0 }
+    ensures { result ≡ step_briefly (stage.Headed line) 0 kind 0 }
 {
     if kind == 0x2E {
         return Move::Ends(line);
@@ -202,7 +202,7 @@ fn closed(line: Brief, kind: u8) -> Move
 
 // After a literal: a comma, or the full stop.
 fn parted(line: Brief, kind: u8) -> Move
-    ensures { result ≡ stepBriefly (stage.Said line) 0 kind 0 }
+    ensures { result ≡ step_briefly (stage.Said line) 0 kind 0 }
 {
     if kind == 0x2C {
         return Move::Goes(Stage::Due(line));
@@ -216,7 +216,7 @@ fn parted(line: Brief, kind: u8) -> Move
 // What a token does.
 pub(crate) fn step(stage: Stage, place: usize, kind: u8, atom: usize) -> Move
     requires { atom ≤ 255 }
-    ensures { result ≡ stepBriefly stage place kind atom }
+    ensures { result ≡ step_briefly stage place kind atom }
 {
     match stage {
         Stage::Fresh => begun(place, kind, atom),
@@ -241,7 +241,7 @@ pub enum LineRead {
 }
 
 fn is_fresh(stage: Stage) -> bool
-    ensures { result ≡ isFresh stage }
+    ensures { result ≡ is_fresh stage }
 {
     match stage {
         Stage::Fresh => true,
@@ -259,7 +259,7 @@ fn is_fresh(stage: Stage) -> bool
 
 // What the end of the text makes of a line that was read to this stage.
 fn ended(stage: Stage, place: usize) -> LineRead
-    ensures { result ≡ endedBriefly stage place }
+    ensures { result ≡ ended_briefly stage place }
 {
     if is_fresh(stage) {
         return LineRead::End;

@@ -1,6 +1,6 @@
 // The numbers of a line in its field, which a second reading of its tokens finds.
 ghost use Rattle.std.specs.Prelude.{◌≡◌, ◌≤◌, ◌<◌, length};
-ghost use Rattle.text.specs.LineNumbers.{placeSaid, numberSaid, NumbersTell};
+ghost use Rattle.text.specs.LineNumbers.{place_said, number_said, NumbersTell};
 
 use crate::Scanned;
 use crate::line::{Move, Stage, step};
@@ -9,7 +9,7 @@ use arrays::put;
 
 // Where a token's number stands among the line's; 17 where it has none.
 fn place_said(stage: Stage, kind: u8) -> usize
-    ensures { result ≡ placeSaid stage kind }
+    ensures { result ≡ place_said stage kind }
 {
     if kind != 0x70 {
         return 17;
@@ -31,7 +31,7 @@ fn place_said(stage: Stage, kind: u8) -> usize
 // The number that an atom says: a declared atom, a head, or a literal.
 fn number_said(stage: Stage, atom: usize) -> usize
     requires { atom ≤ 255 }
-    ensures { (result ≡ numberSaid stage atom) × (result < 65536) }
+    ensures { (result ≡ number_said stage atom) × (result < 65536) }
 {
     match stage {
         Stage::Fresh => 2 * atom,

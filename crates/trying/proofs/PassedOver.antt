@@ -9,16 +9,16 @@ use native.Mathlib.Omega.{arith}
 use borrow.Author.Tests.{eq-eqb, ne_eqb}
 use Rattle.papers.specs.Tests.{◌and◌}
 use Rattle.steps.specs.Explanations.{Problem, scenarios}
-use Rattle.steps.specs.Continuing.{newTo, work, step, steps}
-use Rattle.steps.proofs.Steps.{move-tries, step-tries}
-use Rattle.steps.proofs.Runs.{steps-zero, steps-last}
+use Rattle.steps.specs.Continuing.{new_to, work, step, steps}
+use Rattle.steps.proofs.Steps.{move_tries, step_tries}
+use Rattle.steps.proofs.Runs.{steps_zero, steps_last}
 use Rattle.stepping.specs.declared.Progress.{Progress}
 use Rattle.stepping.specs.Stepping.{Kept, Tried}
 use Rattle.held.specs.declared.Masks.{Masks}
-use Rattle.held.specs.HeldProblem.{heldProblem}
-use Rattle.held.proofs.HeldLaws.{held-other}
+use Rattle.held.specs.HeldProblem.{held_problem}
+use Rattle.held.proofs.HeldLaws.{held_other}
 use Rattle.agreeing.specs.DisagreeingRuns.{DisagreeingRun}
-use Rattle.trying.specs.Trying.{span_of, passedOver}
+use Rattle.trying.specs.Trying.{span_of, passed_over}
 
 -- No explanation and no round, from p on.
 pub record Idle (P : Problem) (p count : ℕ) : Type 0 where
@@ -26,31 +26,31 @@ pub record Idle (P : Problem) (p count : ℕ) : Type 0 where
   pub free : (i : ℕ) → i < count → P.rounds (p + i) ≡ 0
 
 module _ (P : Problem) where
-  idle-step : (p f : ℕ) (l : List ℕ) (t r : ℕ) → p < scenarios P → P.explains p ≡ false → P.rounds p ≡ 0
+  idle_step : (p f : ℕ) (l : List ℕ) (t r : ℕ) → p < scenarios P → P.explains p ≡ false → P.rounds p ≡ 0
       → step P (work p f l t r) ≡ work (p + 1) f l (t + 1) r
-  unfolding newTo ◌and◌
-  idle-step p f l t r h e z =
+  unfolding new_to ◌and◌
+  idle_step p f l t r h e z =
       let same : r + P.rounds p ≡ r = omega (arith, z) in
-      step-tries P p f l t r (move-tries P p f l (λ q. omega arith) (rw e)) ∙ ap (work (p + 1) f l (t + 1)) same
+      step_tries P p f l t r (move_tries P p f l (λ q. omega arith) (rw e)) ∙ ap (work (p + 1) f l (t + 1)) same
 
-  idle-steps : (n p f : ℕ) (l : List ℕ) (t r : ℕ) → Idle P p n → p + n ≤ scenarios P → steps P n (work p f l t r) ≡ work (p + n) f l (t + n) r
-  idle-steps zero p f l t r idle h =
+  idle_steps : (n p f : ℕ) (l : List ℕ) (t r : ℕ) → Idle P p n → p + n ≤ scenarios P → steps P n (work p f l t r) ≡ work (p + n) f l (t + n) r
+  idle_steps zero p f l t r idle h =
       let at : p ≡ p + 0 = omega arith in
       let counted : t ≡ t + 0 = omega arith in
-      steps-zero P (work p f l t r) ∙ ap₂ (λ (x y : ℕ). work x f l y r) at counted
-  idle-steps (suc n) p f l t r idle h =
+      steps_zero P (work p f l t r) ∙ ap₂ (λ (x y : ℕ). work x f l y r) at counted
+  idle_steps (suc n) p f l t r idle h =
       let before : Idle P p n = record { unexplained = λ i k. idle.unexplained i (omega arith); free = λ i k. idle.free i (omega arith) } in
       let at : p + n + 1 ≡ p + suc n = omega arith in
       let counted : t + n + 1 ≡ t + suc n = omega arith in
-      steps-last P n (work p f l t r)
-      ∙ ap (step P) (idle-steps n p f l t r before (omega arith))
-      ∙ idle-step (p + n) f l (t + n) r (omega arith) (idle.unexplained n (omega arith)) (idle.free n (omega arith))
+      steps_last P n (work p f l t r)
+      ∙ ap (step P) (idle_steps n p f l t r before (omega arith))
+      ∙ idle_step (p + n) f l (t + n) r (omega arith) (idle.unexplained n (omega arith)) (idle.free n (omega arith))
       ∙ ap₂ (λ (x y : ℕ). work x f l y r) at counted
 
 -- As the code passes over them.
-pub passed-tried : {P : Problem} {total count : ℕ} {s : Progress} {l : List ℕ} → total ≡ scenarios P → Kept total s l → Idle P s.position count
-    → s.position + count ≤ total → Tried P total count s l (passedOver count s) l
-passed-tried {P} {total} {count} {s} {l} all kept idle there =
+pub passed_tried : {P : Problem} {total count : ℕ} {s : Progress} {l : List ℕ} → total ≡ scenarios P → Kept total s l → Idle P s.position count
+    → s.position + count ≤ total → Tried P total count s l (passed_over count s) l
+passed_tried {P} {total} {count} {s} {l} all kept idle there =
     let cost = kept.cost in
     let few = kept.few in
     record {
@@ -61,7 +61,7 @@ passed-tried {P} {total} {count} {s} {l} all kept idle there =
         most = omega arith;
         moved = omega arith;
       };
-      is = idle-steps P count s.position s.found l s.tried s.rounds idle (omega arith);
+      is = idle_steps P count s.position s.found l s.tried s.rounds idle (omega arith);
     }
 
 -- ---- how many come next
@@ -73,15 +73,15 @@ span_run run h = rw (ne_eqb run 0 (λ e. omega arith))
 pub span_none : (run : ℕ) → run ≤ 0 → span_of run ≡ 64
 span_none run h = rw (eq-eqb run 0 (omega arith))
 
-pub span-some : (run : ℕ) → 0 < span_of run
-span-some run = elim (dec_lt 0 run) [
+pub span_some : (run : ℕ) → 0 < span_of run
+span_some run = elim (dec_lt 0 run) [
   | yes h ↦ omega (arith, span_run run h)
   | no h ↦ omega (arith, span_none run (omega arith))
 ]
 
 -- Of a search with held faults.
-pub idle-run : (P : Problem) (m : Masks) (p run count : ℕ) → DisagreeingRun P.abducibles m p run → count ≤ run → Idle (heldProblem P m) p count
-idle-run P m p run count passing few = record {
-  unexplained = λ i h. (held-other P m (p + i) (passing.none i (omega arith))).0;
-  free = λ i h. (held-other P m (p + i) (passing.none i (omega arith))).1;
+pub idle_run : (P : Problem) (m : Masks) (p run count : ℕ) → DisagreeingRun P.abducibles m p run → count ≤ run → Idle (held_problem P m) p count
+idle_run P m p run count passing few = record {
+  unexplained = λ i h. (held_other P m (p + i) (passing.none i (omega arith))).0;
+  free = λ i h. (held_other P m (p + i) (passing.none i (omega arith))).1;
 }

@@ -2,7 +2,7 @@
 use Rattle.std.specs.Prelude.{◌≡◌, false, cond, List, ℕ, ◌+◌, ◌^◌, ◌<◌, ◌≤◌, eqb, length, get_or}
 use Rattle.papers.specs.declared.Contents.{Contents}
 use Rattle.papers.specs.Program.{Query}
-use Rattle.papers.specs.Reading.{programIn, Papers}
+use Rattle.papers.specs.Reading.{program_in, Papers}
 use Rattle.model.specs.Model.{rounds, explains}
 use Rattle.preparing.specs.Preparing.{PapersStand}
 use Rattle.verdicts.specs.VerdictLanes.{DecodedPapers}
@@ -10,49 +10,49 @@ use Rattle.trying.specs.declared.Report.{Report as CallReport}
 use Rattle.verdicts.specs.declared.Verdicts.{Verdicts}
 use Rattle.held.specs.declared.Masks.{Masks}
 use Rattle.held.specs.declared.SearchRecord.{SearchRecord}
-use Rattle.held.specs.HeldProblem.{heldProblem}
+use Rattle.held.specs.HeldProblem.{held_problem}
 use Rattle.agreeing.specs.DisagreeingRuns.{DisagreeingRun}
 use Rattle.stepping.specs.declared.Progress.{Progress}
 use Rattle.steps.specs.Explanations.{Problem}
 use Rattle.steps.specs.declared.Record.{Record}
-use Rattle.steps.specs.Continuing.{Report, stateBy, continue}
-use Rattle.steps.specs.Spoilt.{spoiltBy}
+use Rattle.steps.specs.Continuing.{Report, state_by, continue}
+use Rattle.steps.specs.Spoilt.{spoilt_by}
 use Rattle.stepping.specs.Stepping.{Kept, InLanes}
 
 -- What a file and a sheet come to: "scenario s below 3^k", which of these are explanations, and "j is its round count".
-abbrev pub problemOf : Papers → Problem
-problemOf q = record {
+abbrev pub problem_of : Papers → Problem
+problem_of q = record {
   abducibles = length q.program.abducibles;
   explains = explains q.program q.query;
   rounds = rounds q.program;
 }
 
 -- "Reports the new record (position p plus tried), tried, rounds .. and the state." The record carries the masks as they were.
-abbrev pub toldReport : Masks → Report → CallReport
-toldReport m x = record { new = record { at = x.new; held = m }; tried = x.tried; rounds = x.rounds; state = x.state }
+abbrev pub told_report : Masks → Report → CallReport
+told_report m x = record { new = record { at = x.new; held = m }; tried = x.tried; rounds = x.rounds; state = x.state }
 
 -- ---- for the functions
 
 -- The problem of an accepted file and a query.
-abbrev pub problemIn : List ℕ → Query → Problem
-problemIn file query = problemOf (record { program = programIn file; query = query })
+abbrev pub problem_in : List ℕ → Query → Problem
+problem_in file query = problem_of (record { program = program_in file; query = query })
 
 -- A call that has tried nothing yet.
 abbrev pub untried : Record → Progress
 untried from = record { position = from.position; found = from.found; tried = 0; rounds = 0 }
 
 -- What is told of a call that has come so far.
-abbrev pub reportBy : ℕ → ℕ → Masks → Progress → CallReport
-reportBy total w m s = record {
+abbrev pub report_by : ℕ → ℕ → Masks → Progress → CallReport
+report_by total w m s = record {
   new = record { at = record { position = s.position; found = s.found }; held = m };
   tried = s.tried;
   rounds = s.rounds;
-  state = stateBy total w s.position s.tried;
+  state = state_by total w s.position s.tried;
 }
 
 -- So many scenarios on, none of which agrees: "counts as tried with zero rounds".
-abbrev pub passedOver : ℕ → Progress → Progress
-passedOver count s = record { position = s.position + count; found = s.found; tried = s.tried + count; rounds = s.rounds }
+abbrev pub passed_over : ℕ → Progress → Progress
+passed_over count s = record { position = s.position + count; found = s.found; tried = s.tried + count; rounds = s.rounds }
 
 -- How many scenarios can be tried at once.
 abbrev pub span_of : ℕ → ℕ
@@ -73,7 +73,7 @@ pub record LanesJudged (P : Problem) (k base : ℕ) (v : Verdicts) : Type 0 wher
 pub record Ready (file : List ℕ) (contents : Contents) (rules rule-visits entries entry-visits query : List ℕ) (total count : ℕ) (before : Progress)
     (list : List ℕ) : Type 0 where
   pub prepared : DecodedPapers file contents rules rule-visits entries entry-visits query
-  pub scenarios : total ≡ 3 ^ length (programIn file).abducibles
+  pub scenarios : total ≡ 3 ^ length (program_in file).abducibles
   pub kept : Kept total before list
   pub room : before.tried + count < 4294967296
 
@@ -81,11 +81,11 @@ pub record Ready (file : List ℕ) (contents : Contents) (rules rule-visits entr
 pub record Passed (file : List ℕ) (contents : Contents) (places dual query : List ℕ) (total : ℕ) (from : SearchRecord) (list : List ℕ)
     : Type 0 where
   pub prepared : PapersStand file contents places dual query
-  pub scenarios : total ≡ 3 ^ length (programIn file).abducibles
-  pub unspoilt : spoiltBy total from.at list ≡ false
+  pub scenarios : total ≡ 3 ^ length (program_in file).abducibles
+  pub unspoilt : spoilt_by total from.at list ≡ false
 
 -- What continuing with the held faults leaves: the report and the list, by its definition.
 abbrev pub Continues : Problem → ℕ → SearchRecord → List ℕ → CallReport → List ℕ → Type 0
 Continues P allowance from list r left =
-    (r ≡ toldReport from.held (continue (heldProblem P from.held) allowance from.at list))
-    × (left ≡ (continue (heldProblem P from.held) allowance from.at list).list)
+    (r ≡ told_report from.held (continue (held_problem P from.held) allowance from.at list))
+    × (left ≡ (continue (held_problem P from.held) allowance from.at list).list)

@@ -2,11 +2,11 @@
 // one by one.
 ghost use Rattle.std.specs.Prelude.{◌≡◌, ◌+◌, ◌≤◌, ◌<◌};
 ghost use Rattle.papers.specs.Field.{numbers};
-ghost use Rattle.steps.specs.Continuing.{stateBy};
+ghost use Rattle.steps.specs.Continuing.{state_by};
 ghost use Rattle.stepping.specs.Stepping.{Batch, Tried};
-ghost use Rattle.held.specs.HeldProblem.{heldProblem};
+ghost use Rattle.held.specs.HeldProblem.{held_problem};
 ghost use Rattle.verdicts.specs.VerdictLanes.{DecodedPapers};
-ghost use Rattle.trying.specs.Trying.{problemIn, reportBy, untried, span_of, passedOver, LanesJudged, Next, Ready, Passed, Continues};
+ghost use Rattle.trying.specs.Trying.{problem_in, report_by, untried, span_of, passed_over, LanesJudged, Next, Ready, Passed, Continues};
 
 use agreeing::runs::disagreeing_run;
 use agreeing::{agreeing_lanes, agreeing_rounds};
@@ -65,7 +65,7 @@ fn judge_agreeing(
     base: u64,
 ) -> Verdicts
     requires { DecodedPapers file.now contents rules.now rule_visits.now entries.now entry_visits.now query.now × (base < 4294967296) }
-    ensures { LanesJudged (heldProblem (problemIn file.now query.now) held) contents.abducibles base result }
+    ensures { LanesJudged (held_problem (problem_in file.now query.now) held) contents.abducibles base result }
 {
     let agreeing = agreeing_lanes(contents.abducibles, base, held);
     let verdicts = judge_lanes(
@@ -104,7 +104,7 @@ fn try_batch(
 ) -> Progress
     requires { Ready file.now contents rules.now rule_visits.now entries.now entry_visits.now query.now total count before
         list.old × (count ≤ 64) }
-    ensures { Tried (heldProblem (problemIn file.now query.now) held) total count before list.old
+    ensures { Tried (held_problem (problem_in file.now query.now) held) total count before list.old
         result list.new }
 {
     let verdicts = judge_agreeing(
@@ -134,7 +134,7 @@ fn try_batch(
 // So many scenarios of which none agrees: they count as tried with zero rounds.
 fn passed_over(count: u32, before: Progress) -> Progress
     requires { (before.position + count < 4294967296) × (before.tried + count < 4294967296) }
-    ensures { result ≡ passedOver count before }
+    ensures { result ≡ passed_over count before }
 {
     Progress {
         position: before.position + count,
@@ -162,7 +162,7 @@ fn try_next(
 ) -> Progress
     requires { Ready file.now contents rules.now rule_visits.now entries.now entry_visits.now query.now total count before
         list.old × Next contents.abducibles held total run count before }
-    ensures { Tried (heldProblem (problemIn file.now query.now) held) total count before list.old
+    ensures { Tried (held_problem (problem_in file.now query.now) held) total count before list.old
         result list.new }
 {
     if run > 0 {
@@ -201,7 +201,7 @@ fn try_all(
 ) -> Progress
     requires { Ready file.now contents rules.now rule_visits.now entries.now entry_visits.now query.now total allowance before
         list.old × (before.tried ≡ 0) }
-    ensures { Tried (heldProblem (problemIn file.now query.now) held) total allowance before list.old
+    ensures { Tried (held_problem (problem_in file.now query.now) held) total allowance before list.old
         result list.new }
 {
     let k = contents.abducibles;
@@ -236,7 +236,7 @@ fn try_all(
 
 // The state that a call reports, where there are `total` scenarios.
 fn state_of(total: u32, allowance: u32, position: u32, tried: u32) -> State
-    ensures { result ≡ stateBy total allowance position tried }
+    ensures { result ≡ state_by total allowance position tried }
 {
     if position == total {
         return State::Ended;
@@ -249,7 +249,7 @@ fn state_of(total: u32, allowance: u32, position: u32, tried: u32) -> State
 
 // What a call reports that came so far.
 fn report_of(total: u32, allowance: u32, held: Masks, reached: Progress) -> Report
-    ensures { result ≡ reportBy total allowance held reached }
+    ensures { result ≡ report_by total allowance held reached }
 {
     let state = state_of(total, allowance, reached.position, reached.tried);
     let at = Record {
@@ -289,7 +289,7 @@ fn search_decoded(
     allowance: u32,
 ) -> Report
     requires { Passed file.now contents places.now dual.now query.now total from list.old }
-    ensures { Continues (problemIn file.now (numbers query.now)) allowance from list.old
+    ensures { Continues (problem_in file.now (numbers query.now)) allowance from list.old
         result list.new }
 {
     let mut rules = [0u16; 23040];
@@ -344,7 +344,7 @@ pub fn search_accepted(
     allowance: u32,
 ) -> Report
     requires { Passed file.now contents places.now dual.now query.now total from list.old }
-    ensures { Continues (problemIn file.now (numbers query.now)) allowance from list.old
+    ensures { Continues (problem_in file.now (numbers query.now)) allowance from list.old
         result list.new }
 {
     if allowance == 0 {

@@ -8,25 +8,25 @@ use lib.Dec.{eqb}
 use lib.ListN.{get_or}
 use Rattle.papers.specs.Program.{Program, Query}
 use Rattle.dual.specs.Bytes.{filled}
-use Rattle.model.specs.Model.{rounds, valueBytes, modelBytes, explains}
+use Rattle.model.specs.Model.{rounds, value_bytes, model_bytes, explains}
 use Rattle.lanes.specs.Lanes.{lane}
 use Rattle.settling.specs.RoundLanes.{SettledLanes}
 use Rattle.verdicts.specs.VerdictLanes.{VerdictLanes}
-use Rattle.valuation.proofs.ValueLaws.{first_lane, first-bytes}
+use Rattle.valuation.proofs.ValueLaws.{first_lane, first_bytes}
 
 module _ (p : Program) (q : Query) (s w : ℕ) (counts : List ℕ) (v : VerdictLanes p q s w counts) where
   here : s + 0 ≡ s
   here = omega arith
 
-  pub first-explained : eqb (w % 2) 1 ≡ explains p q s
-  first-explained = first_lane w ∙ v.explained 0 (omega arith) ∙ ap (explains p q) here
+  pub first_explained : eqb (w % 2) 1 ≡ explains p q s
+  first_explained = first_lane w ∙ v.explained 0 (omega arith) ∙ ap (explains p q) here
 
   pub first_counted : get_or counts 0 0 ≡ rounds p s
   first_counted = v.counted 0 (omega arith) ∙ ap (rounds p) here
 
-pub first-filled : (p : Program) (s n : ℕ) (trues falses counts before after : List ℕ) → p.atoms ≡ n → SettledLanes p s trues falses counts
-    → after ≡ filled (valueBytes (lane (2 * n + 1) 0 trues) (lane (2 * n + 1) 0 falses)) before → after ≡ filled (modelBytes p s) before
-first-filled p s n trues falses counts before after e l h =
+pub first_filled : (p : Program) (s n : ℕ) (trues falses counts before after : List ℕ) → p.atoms ≡ n → SettledLanes p s trues falses counts
+    → after ≡ filled (value_bytes (lane (2 * n + 1) 0 trues) (lane (2 * n + 1) 0 falses)) before → after ≡ filled (model_bytes p s) before
+first_filled p s n trues falses counts before after e l h =
     h
-    ∙ ap (λ (x : ℕ). filled (valueBytes (lane (2 * x + 1) 0 trues) (lane (2 * x + 1) 0 falses)) before) (sym e)
-    ∙ ap (λ (x : List ℕ). filled x before) (first-bytes p s trues falses counts l)
+    ∙ ap (λ (x : ℕ). filled (value_bytes (lane (2 * x + 1) 0 trues) (lane (2 * x + 1) 0 falses)) before) (sym e)
+    ∙ ap (λ (x : List ℕ). filled x before) (first_bytes p s trues falses counts l)

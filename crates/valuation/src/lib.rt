@@ -4,9 +4,9 @@ mod values;
 ghost use Rattle.std.specs.Prelude.{◌≡◌, ◌≤◌, length};
 ghost use Rattle.literals.specs.Numbering.{judged};
 ghost use Rattle.papers.specs.Field.{numbers};
-ghost use Rattle.papers.specs.Reading.{programIn};
+ghost use Rattle.papers.specs.Reading.{program_in};
 ghost use Rattle.dual.specs.Bytes.{filled};
-ghost use Rattle.model.specs.Model.{rounds, modelBytes, explains};
+ghost use Rattle.model.specs.Model.{rounds, model_bytes, explains};
 ghost use Rattle.preparing.specs.Preparing.{PapersStand};
 ghost use Rattle.verdicts.specs.VerdictLanes.{DecodedPapers};
 
@@ -36,10 +36,10 @@ fn judge_decoded(
     model: &mut [u8],
 ) -> Verdict
     requires { DecodedPapers file.now contents rules.now rule_visits.now entries.now entry_visits.now query.now
-        × (judged (programIn file.now).atoms ≤ length model.old) }
-    ensures { (result.explains ≡ explains (programIn file.now) query.now scenario)
-        × ((result.rounds ≡ rounds (programIn file.now) scenario)
-        × (model.new ≡ filled (modelBytes (programIn file.now) scenario) model.old)) }
+        × (judged (program_in file.now).atoms ≤ length model.old) }
+    ensures { (result.explains ≡ explains (program_in file.now) query.now scenario)
+        × ((result.rounds ≡ rounds (program_in file.now) scenario)
+        × (model.new ≡ filled (model_bytes (program_in file.now) scenario) model.old)) }
 {
     let settled = settle(
         file,
@@ -73,10 +73,10 @@ pub fn judge_accepted(
     scenario: u32,
     model: &mut [u8],
 ) -> Verdict
-    requires { PapersStand file.now contents places.now dual.now query.now × (judged (programIn file.now).atoms ≤ length model.old) }
-    ensures { (result.explains ≡ explains (programIn file.now) (numbers query.now) scenario)
-        × ((result.rounds ≡ rounds (programIn file.now) scenario)
-        × (model.new ≡ filled (modelBytes (programIn file.now) scenario) model.old)) }
+    requires { PapersStand file.now contents places.now dual.now query.now × (judged (program_in file.now).atoms ≤ length model.old) }
+    ensures { (result.explains ≡ explains (program_in file.now) (numbers query.now) scenario)
+        × ((result.rounds ≡ rounds (program_in file.now) scenario)
+        × (model.new ≡ filled (model_bytes (program_in file.now) scenario) model.old)) }
 {
     let mut rules = [0u16; 23040];
     let mut rule_visits = [0u16; 1280];

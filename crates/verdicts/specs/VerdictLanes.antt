@@ -5,34 +5,34 @@ use Rattle.papers.specs.declared.Contents.{Contents}
 use Rattle.papers.specs.Program.{Program, Query}
 use Rattle.papers.specs.Valid.{ValidQuery}
 use Rattle.papers.specs.declared.FileRead.TheVariants.{Accepted}
-use Rattle.papers.specs.Reading.{readFile, programIn}
-use Rattle.papers.specs.Answers.{fileAnswer}
+use Rattle.papers.specs.Reading.{read_file, program_in}
+use Rattle.papers.specs.Answers.{file_answer}
 use Rattle.papers.specs.Tests.{◌and◌}
 use Rattle.model.specs.Sets.{has}
-use Rattle.model.specs.LeastSet.{bodyHolds}
-use Rattle.model.specs.Model.{rounds, valueBytes, contradictory, explains}
-use Rattle.lanes.specs.Lanes.{inLane, lane}
+use Rattle.model.specs.LeastSet.{body_holds}
+use Rattle.model.specs.Model.{rounds, value_bytes, contradictory, explains}
+use Rattle.lanes.specs.Lanes.{lane_bit, lane}
 use Rattle.settling.specs.RoundLanes.{Decoded}
 
 -- Accepted papers decoded: the rules and the dual of the file and the query of the sheet as numbers.
 pub record DecodedPapers (file : List ℕ) (contents : Contents) (rules rule-visits entries entry-visits query : List ℕ) : Type 0 where
-  pub answer : fileAnswer (readFile file) ≡ Accepted contents
-  pub decoded : Decoded (programIn file) rules rule-visits entries entry-visits
-  pub asked : ValidQuery (programIn file).atoms query
+  pub answer : file_answer (read_file file) ≡ Accepted contents
+  pub decoded : Decoded (program_in file) rules rule-visits entries entry-visits
+  pub asked : ValidQuery (program_in file).atoms query
 
 -- The lanes in which one of the first n literals is both true and false.
 pub record BothLanes (n : ℕ) (trues falses : List ℕ) (word : ℕ) : Type 0 where
-  pub at : (l : ℕ) → inLane l word ≡ contradictory (valueBytes (lane n l trues) (lane n l falses))
+  pub at : (l : ℕ) → lane_bit l word ≡ contradictory (value_bytes (lane n l trues) (lane n l falses))
 
 -- The lanes in which falsum is false and not true, each literal of the query holds, and no judged literal is both.
 pub record ExplainedWord (n : ℕ) (query trues falses : List ℕ) (word : ℕ) : Type 0 where
   pub at : (l : ℕ) → l < 64
-      → inLane l word
+      → lane_bit l word
       ≡ ((not (has (lane (judged n) l trues) (falsum n)) and has (lane (judged n) l falses) (falsum n))
-      and bodyHolds false (lane (judged n) l trues) (lane (judged n) l falses) query
-      and not (contradictory (valueBytes (lane (judged n) l trues) (lane (judged n) l falses))))
+      and body_holds false (lane (judged n) l trues) (lane (judged n) l falses) query
+      and not (contradictory (value_bytes (lane (judged n) l trues) (lane (judged n) l falses))))
 
 -- Which of the scenarios base + l are explanations, and their round counts.
 pub record VerdictLanes (p : Program) (q : Query) (base word : ℕ) (counts : List ℕ) : Type 0 where
-  pub explained : (l : ℕ) → l < 64 → inLane l word ≡ explains p q (base + l)
+  pub explained : (l : ℕ) → l < 64 → lane_bit l word ≡ explains p q (base + l)
   pub counted : (l : ℕ) → l < 64 → get_or counts l 0 ≡ rounds p (base + l)

@@ -1,7 +1,7 @@
 // Which of 64 scenarios are explanations.
 ghost use Rattle.std.specs.Prelude.{◌<◌, ◌≤◌};
 ghost use Rattle.literals.specs.Numbering.{judged};
-ghost use Rattle.papers.specs.Reading.{programIn};
+ghost use Rattle.papers.specs.Reading.{program_in};
 ghost use Rattle.lanes.specs.Words.{Literals};
 ghost use Rattle.verdicts.specs.VerdictLanes.{DecodedPapers, BothLanes, ExplainedWord, VerdictLanes};
 
@@ -56,7 +56,7 @@ pub fn judge_lanes(
     base: u64,
 ) -> Verdicts
     requires { DecodedPapers file.now contents rules.now rule_visits.now entries.now entry_visits.now query.now × (base < 4294967296) }
-    ensures { VerdictLanes (programIn file.now) query.now base result.explained result.rounds }
+    ensures { VerdictLanes (program_in file.now) query.now base result.explained result.rounds }
 {
     let mut t = [0u64; 513];
     let mut f = [0u64; 513];

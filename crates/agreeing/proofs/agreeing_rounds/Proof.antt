@@ -3,7 +3,7 @@
 use Prim.Native.Nat.{◌-◌, ◌≤◌}
 use native.Mathlib.Omega.{arith}
 use borrow.Author.Rules.{rules}
-use Rattle.agreeing.proofs.AgreeingLaws.{RoundsBelow, rounds-none, rounds-next, rounds-all}
+use Rattle.agreeing.proofs.AgreeingLaws.{RoundsBelow, rounds_none, rounds_next, rounds_all}
 use Rattle.agreeing.proofs.agreeing_rounds.Statement.{statement}
 use Rattle.agreeing.proofs.agreeing_rounds.Tie as tie
 
@@ -14,7 +14,7 @@ abbrev decreases-loop : tie.decreases-loop
 decreases-loop word rounds after₀ l₀ after l = 64 - l
 
 loop-holds : tie.Need-loop-init invariant-loop decreases-loop
-loop-holds c = (omega arith, rounds-none _ _)
+loop-holds c = (omega arith, rounds_none _ _)
 
 mul-rounds-in : tie.Need-overflow-mul-rounds-in invariant-loop decreases-loop
 mul-rounds-in c = search rules
@@ -40,13 +40,13 @@ loop-less c = search rules
 loop-again : tie.Need-loop-preserved invariant-loop decreases-loop
 loop-again c =
     let inside = c.before.before in
-    (omega arith, rounds-next inside.before.loop.invariant.1 inside.loop-test.true c.rounds-in.ensures)
+    (omega arith, rounds_next inside.before.loop.invariant.1 inside.loop-test.true c.rounds-in.ensures)
 
 returns : tie.Need-returns invariant-loop decreases-loop
-returns c = rounds-all c.before.loop.invariant.1 c.loop-test.false
+returns c = rounds_all c.before.loop.invariant.1 c.loop-test.false
 
-pub agreeing-rounds-spec : {M : Type 1} → statement M
-agreeing-rounds-spec =
+pub agreeing_rounds_spec : {M : Type 1} → statement M
+agreeing_rounds_spec =
     tie.close
     (tie.spec
     invariant-loop

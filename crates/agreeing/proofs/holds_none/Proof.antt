@@ -13,5 +13,5 @@ returns-2 : tie.Need-returns-2
 unfolding ◌and◌
 returns-2 c = rw (ne_eqb _ 0 c.if1.false)
 
-pub holds-none-spec : {M : Type 1} → statement M
-holds-none-spec = tie.close (tie.spec returns returns-2)
+pub holds_none_spec : {M : Type 1} → statement M
+holds_none_spec = tie.close (tie.spec returns returns-2)

@@ -2,7 +2,7 @@
 -- Assumes nothing.
 use borrow.Author.Rules.{rules}
 use borrow.Author.Tests.{not-true}
-use Rattle.agreeing.proofs.AgreeingLaws.{kept-both, kept_free}
+use Rattle.agreeing.proofs.AgreeingLaws.{kept_both, kept_free}
 use Rattle.agreeing.proofs.keep_agreeing.Statement.{statement}
 use Rattle.agreeing.proofs.keep_agreeing.Tie as tie
 
@@ -21,7 +21,7 @@ kept-if-requires-2 c κs = search rules
 returns-2 : tie.Need-returns-2
 returns-2 c =
     let words = c.before.before.digit-lanes.ensures in
-    kept-both words.0 words.1 c.before.kept_if.ensures c.kept-if2.ensures
+    kept_both words.0 words.1 c.before.kept_if.ensures c.kept-if2.ensures
 
-pub keep-agreeing-spec : {M : Type 1} → statement M
-keep-agreeing-spec = tie.close (tie.spec returns digit-lanes-requires kept-if-requires kept-if-requires-2 returns-2)
+pub keep_agreeing_spec : {M : Type 1} → statement M
+keep_agreeing_spec = tie.close (tie.spec returns digit-lanes-requires kept-if-requires kept-if-requires-2 returns-2)

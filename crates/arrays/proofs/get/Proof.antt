@@ -3,7 +3,7 @@
 use borrow.Author.Rules.{rules}
 use mathlib.Core.Path.{sym, ◌∙◌}
 use lib.ListN.{get_or-eq_default}
-use Rattle.arrays.proofs.ArrayLaws.{any-other}
+use Rattle.arrays.proofs.ArrayLaws.{any_other}
 use Rattle.arrays.proofs.get.Statement.{statement}
 use Rattle.arrays.proofs.get.Tie as tie
 
@@ -19,7 +19,7 @@ wide-requires c κs = search rules
 returns : tie.Need-returns
 returns c =
     let a = c.before.before.before.before.args in
-    (c.wide.ensures.0 ∙ any-other a.numbers.now a.at 0 a.other c.before.before.if1.true, c.wide.ensures.1)
+    (c.wide.ensures.0 ∙ any_other a.numbers.now a.at 0 a.other c.before.before.if1.true, c.wide.ensures.1)
 
 wide-requires-2 : tie.Need-wide-requires-2
 wide-requires-2 c κs = search rules

@@ -6,13 +6,13 @@ use Prim.Native.Nat.{ℕ, ◌-◌, ◌≤◌}
 use native.Mathlib.Omega.{arith}
 use Rattle.literals.specs.Numbering.{judged}
 use lib.ListN.{length, length-set}
-use Rattle.lanes.specs.Lanes.{backingWord, Written}
-use Rattle.lanes.proofs.LaneLaws.{written_none, written-more}
+use Rattle.lanes.specs.Lanes.{backing_word, Written}
+use Rattle.lanes.proofs.LaneLaws.{written_none, written_more}
 use Rattle.backing.proofs.backing_words.Statement.{statement}
 use Rattle.backing.proofs.backing_words.Tie as tie
 
 abbrev invariant-loop : tie.invariant-loop
-invariant-loop trues falses atoms words₀ count i₀ words i = (i ≤ count) × ((length words ≡ 513) × Written i (backingWord atoms trues falses) words₀ words)
+invariant-loop trues falses atoms words₀ count i₀ words i = (i ≤ count) × ((length words ≡ 513) × Written i (backing_word atoms trues falses) words₀ words)
 
 abbrev decreases-loop : tie.decreases-loop
 decreases-loop trues falses atoms words₀ count i₀ words i = count - i
@@ -27,7 +27,7 @@ loop-holds : tie.Need-loop-init invariant-loop decreases-loop
 loop-holds c =
     let a = c.before.before.before.args in (
       omega arith,
-      (c.before.lent-known.ensures.many, written_none (backingWord a.atoms a.trues.now a.falses.now) a.words.now),
+      (c.before.lent-known.ensures.many, written_none (backing_word a.atoms a.trues.now a.falses.now) a.words.now),
     )
 
 backing-word-requires : tie.Need-backing-word-requires invariant-loop decreases-loop
@@ -51,7 +51,7 @@ loop-again c =
     let s = c.before.before.before.before.before.before in
     let a = s.args in
     let few = c.before.before.before.judged.ensures in
-    let is = written-more (backingWord a.atoms a.trues.now a.falses.now) l.i a.words.now l.words
+    let is = written_more (backing_word a.atoms a.trues.now a.falses.now) l.i a.words.now l.words
     (omega (arith, s.requires, few, l.invariant.1.0)) l.invariant.1.1 in
     (omega arith, (simp length-set l.invariant.1.0, rw c.backing-word.ensures is))
 
@@ -61,10 +61,10 @@ returns c =
     let a = c.before.before.before.before.before.args in
     let all = c.before.before.judged.ensures in
     let e : l.i ≡ judged a.atoms = omega arith in
-    subst (λ (n : ℕ). Written n (backingWord a.atoms a.trues.now a.falses.now) a.words.now l.words) e l.invariant.1.1
+    subst (λ (n : ℕ). Written n (backing_word a.atoms a.trues.now a.falses.now) a.words.now l.words) e l.invariant.1.1
 
-pub backing-words-spec : {M : Type 1} → statement M
-backing-words-spec =
+pub backing_words_spec : {M : Type 1} → statement M
+backing_words_spec =
     tie.close
     (tie.spec
     invariant-loop

@@ -21,5 +21,5 @@ returns c = rw (← c.before.before.is-listed.ensures, c.before.if1.true)
 returns-2 : tie.Need-returns-2
 returns-2 c = rw (← c.before.is-listed.ensures, c.if1.false)
 
-pub atom-of-spec : {M : Type 1} → statement M
-atom-of-spec = tie.close (tie.spec is-listed-requires cast-t6 returns returns-2)
+pub atom_of_spec : {M : Type 1} → statement M
+atom_of_spec = tie.close (tie.spec is-listed-requires cast-t6 returns returns-2)

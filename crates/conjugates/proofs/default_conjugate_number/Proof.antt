@@ -2,9 +2,9 @@
 -- Assumes nothing.
 use borrow.Author.Rules.{rules}
 use mathlib.Core.Path.{sym, ap, ◌∙◌}
-use Rattle.literals.specs.Section21.{conjD}
-use Rattle.literals.specs.Numbering.{number_of, defaultConjugate}
-use Rattle.conjugates.proofs.ConjugateLaws.{form-tells, no-form-tells, default-conjugate-made, no-default-conjugate-made}
+use Rattle.literals.specs.Section21.{conj_d}
+use Rattle.literals.specs.Numbering.{number_of, default_conjugate}
+use Rattle.conjugates.proofs.ConjugateLaws.{form_tells, no_form_tells, default_conjugate_made, no_default_conjugate_made}
 use Rattle.conjugates.proofs.default_conjugate_number.Statement.{statement}
 use Rattle.conjugates.proofs.default_conjugate_number.Tie as tie
 
@@ -20,8 +20,8 @@ enum_told c = search rules
 returns : tie.Need-returns
 returns c =
     let a = c.before.before.before.args in
-    no-default-conjugate-made a.atoms a.l.0
-    (no-form-tells a.atoms a.l.0 (sym c.before.before.form_of.ensures ∙ c.enum_told.given.1))
+    no_default_conjugate_made a.atoms a.l.0
+    (no_form_tells a.atoms a.l.0 (sym c.before.before.form_of.ensures ∙ c.enum_told.given.1))
 
 default-conjugate-requires : tie.Need-default-conjugate-requires
 default-conjugate-requires c κs = search rules
@@ -30,17 +30,17 @@ literal-number-requires : tie.Need-literal-number-requires
 literal-number-requires c κs = search rules
 
 returns-2 : tie.Need-returns-2
-unfolding defaultConjugate
+unfolding default_conjugate
 returns-2 c =
     let told = c.before.before.before in
     let made = told.before.before in
     let a = made.before.args in
-    let tells = form-tells a.atoms a.l.0 (sym made.form_of.ensures ∙ told.form.given.1) in
-    default-conjugate-made a.atoms a.l.0 tells.0
-    (c.literal-number.ensures ∙ ap number_of (c.before.default-conjugate.ensures ∙ ap conjD tells.1))
+    let tells = form_tells a.atoms a.l.0 (sym made.form_of.ensures ∙ told.form.given.1) in
+    default_conjugate_made a.atoms a.l.0 tells.0
+    (c.literal-number.ensures ∙ ap number_of (c.before.default-conjugate.ensures ∙ ap conj_d tells.1))
 
-pub default-conjugate-number-spec : {M : Type 1} → statement M
-default-conjugate-number-spec =
+pub default_conjugate_number_spec : {M : Type 1} → statement M
+default_conjugate_number_spec =
     tie.close
     (tie.spec
     form-of-requires

@@ -26,5 +26,5 @@ returns c = rw (← c.before.before.is-listed.ensures, c.before.if1.true)
 returns-2 : tie.Need-returns-2
 returns-2 c = rw (← c.before.is-listed.ensures, c.if1.false)
 
-pub default-negation-spec : {M : Type 1} → statement M
-default-negation-spec = tie.close (tie.spec is-listed-requires mul-t5 add-t6 returns returns-2)
+pub default_negation_spec : {M : Type 1} → statement M
+default_negation_spec = tie.close (tie.spec is-listed-requires mul-t5 add-t6 returns returns-2)

@@ -4,10 +4,10 @@ use borrow.Author.Rules.{rules}
 use mathlib.Core.Path.{◌≡◌, sym, ap, ◌∙◌}
 use Prim.Native.Nat.{◌*◌, ◌<◌}
 use native.Mathlib.Omega.{arith}
-use Rattle.literals.specs.Section21.{conjE}
-use Rattle.literals.specs.Numbering.{literal, formOf, objectiveNumber, objectiveOr, explicitConjugate}
-use Rattle.literals.proofs.NumberingLaws.{explicit-never-none}
-use Rattle.conjugates.proofs.ConjugateLaws.{form-tells, no-form-tells, conjugate-made, no-conjugate-made}
+use Rattle.literals.specs.Section21.{conj_e}
+use Rattle.literals.specs.Numbering.{literal, literal_form, objective_number, objective_or, explicit_conjugate}
+use Rattle.literals.proofs.NumberingLaws.{explicit_never_none}
+use Rattle.conjugates.proofs.ConjugateLaws.{form_tells, no_form_tells, conjugate_made, no_conjugate_made}
 use Rattle.conjugates.proofs.explicit_conjugate_number.Statement.{statement}
 use Rattle.conjugates.proofs.explicit_conjugate_number.Tie as tie
 
@@ -20,13 +20,13 @@ module _ (c : tie.After-explicit-conjugate) where
   abbrev start : tie.Start
   start = known.before.before.before.before
 
-  tells : (literal start.args.o.0 < 4 * start.args.atoms) × (known.before.form.given.0.0 ≡ formOf (literal start.args.o.0))
+  tells : (literal start.args.o.0 < 4 * start.args.atoms) × (known.before.form.given.0.0 ≡ literal_form (literal start.args.o.0))
   tells =
-      form-tells start.args.atoms (literal start.args.o.0)
+      form_tells start.args.atoms (literal start.args.o.0)
       (sym known.before.before.before.objective-form.ensures ∙ known.before.form.given.1)
 
-  by_form : c.explicit-conjugate.result ≡ conjE (formOf (literal start.args.o.0))
-  by_form = c.explicit-conjugate.ensures ∙ ap conjE tells.1
+  by_form : c.explicit-conjugate.result ≡ conj_e (literal_form (literal start.args.o.0))
+  by_form = c.explicit-conjugate.ensures ∙ ap conj_e tells.1
 
 objective-form-requires : tie.Need-objective-form-requires
 objective-form-requires c κs = search rules
@@ -40,8 +40,8 @@ enum_told c = search rules
 returns : tie.Need-returns
 returns c =
     let a = c.before.before.before.args in
-    let past = no-form-tells a.atoms (literal a.o.0) (sym c.before.before.objective-form.ensures ∙ c.enum_told.given.1) in
-    no-conjugate-made a.atoms a.o.0 (omega (arith, past))
+    let past = no_form_tells a.atoms (literal a.o.0) (sym c.before.before.objective-form.ensures ∙ c.enum_told.given.1) in
+    no_conjugate_made a.atoms a.o.0 (omega (arith, past))
 
 explicit-conjugate-requires : tie.Need-explicit-conjugate-requires
 explicit-conjugate-requires c κs = search rules
@@ -59,22 +59,22 @@ enum-told-2 : tie.Need-enum-told-2
 enum-told-2 c = search rules
 
 returns-2 : tie.Need-returns-2
-unfolding explicitConjugate objectiveOr
+unfolding explicit_conjugate objective_or
 returns-2 c =
     let is = c.before.before.before in
     let w = is.before.before in
     let a = (start w).args in
-    conjugate-made a.atoms a.o.0 (omega (arith, (tells w).0))
-    (c.objective-of.ensures ∙ ap objectiveNumber c.before.literal-number.ensures
-    ∙ ap (objectiveOr a.o.0) (sym is.conjugate.given.1 ∙ by_form w))
+    conjugate_made a.atoms a.o.0 (omega (arith, (tells w).0))
+    (c.objective-of.ensures ∙ ap objective_number c.before.literal-number.ensures
+    ∙ ap (objective_or a.o.0) (sym is.conjugate.given.1 ∙ by_form w))
 
 returns-3 : tie.Need-returns-3
 returns-3 c =
     let w = c.before.before in
-    absurd (explicit-never-none (start w).args.o.0 (sym (by_form w) ∙ c.enum-told2.given.1))
+    absurd (explicit_never_none (start w).args.o.0 (sym (by_form w) ∙ c.enum-told2.given.1))
 
-pub explicit-conjugate-number-spec : {M : Type 1} → statement M
-explicit-conjugate-number-spec =
+pub explicit_conjugate_number_spec : {M : Type 1} → statement M
+explicit_conjugate_number_spec =
     tie.close
     (tie.spec
     objective-form-requires

@@ -21,5 +21,5 @@ returns c = rw (← c.before.before.is-listed.ensures, c.before.if1.true)
 returns-2 : tie.Need-returns-2
 returns-2 c = rw (← c.before.is-listed.ensures, c.if1.false)
 
-pub literal-of-spec : {M : Type 1} → statement M
-literal-of-spec = tie.close (tie.spec is-listed-requires mul-t5 returns returns-2)
+pub literal_of_spec : {M : Type 1} → statement M
+literal_of_spec = tie.close (tie.spec is-listed-requires mul-t5 returns returns-2)

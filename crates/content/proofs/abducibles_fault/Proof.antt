@@ -6,14 +6,14 @@ use mathlib.Core.Path.{◌≡◌, refl, sym, ◌∙◌}
 use Prim.Native.Nat.{◌≤◌, ◌-◌, ◌*◌}
 use lib.ListN.{drop}
 use Rattle.papers.specs.Field.{numbers}
-use Rattle.papers.specs.Content.{abduciblesFault}
-use Rattle.papers.proofs.NumbersWalked.{abducibles-done, abducibles-unlisted, abducibles-disorder, abducibles-next}
+use Rattle.papers.specs.Content.{abducibles_fault}
+use Rattle.papers.proofs.NumbersWalked.{abducibles_done, abducibles_unlisted, abducibles_disorder, abducibles_next}
 use Rattle.content.proofs.abducibles_fault.Statement.{statement}
 use Rattle.content.proofs.abducibles_fault.Tie as tie
 
 abbrev invariant-loop : tie.invariant-loop
 invariant-loop content atoms count least₀ i₀ least i =
-    (i ≤ count) × (abduciblesFault atoms 0 (numbers content) ≡ abduciblesFault atoms least (numbers (drop (2 * i) content)))
+    (i ≤ count) × (abducibles_fault atoms 0 (numbers content) ≡ abducibles_fault atoms least (numbers (drop (2 * i) content)))
 
 abbrev decreases-loop : tie.decreases-loop
 decreases-loop content atoms count least₀ i₀ least i = count - i
@@ -45,7 +45,7 @@ returns c =
     let a = (start begun.before).args in
     sym
     (begun.before.loop.inv.1
-    ∙ abducibles-unlisted a.content.now _ a.atoms begun.loop-test.taken read.atom-at.ensures _ c.if1.true)
+    ∙ abducibles_unlisted a.content.now _ a.atoms begun.loop-test.taken read.atom-at.ensures _ c.if1.true)
 
 returns-2 : tie.Need-returns-2 invariant-loop decreases-loop
 returns-2 c =
@@ -54,7 +54,7 @@ returns-2 c =
     let a = (start begun.before).args in
     sym
     (begun.before.loop.inv.1
-    ∙ abducibles-disorder a.content.now _ a.atoms begun.loop-test.taken read.atom-at.ensures _ c.before.if1.false c.if2.true)
+    ∙ abducibles_disorder a.content.now _ a.atoms begun.loop-test.taken read.atom-at.ensures _ c.before.if1.false c.if2.true)
 
 add-least : tie.Need-overflow-add-least invariant-loop decreases-loop
 add-least c = search rules
@@ -72,16 +72,16 @@ loop-again c =
     let a = (start begun.before).args in (
       omega arith,
       begun.before.loop.inv.1
-          ∙ abducibles-next a.content.now _ a.atoms begun.loop-test.taken read.atom-at.ensures _ c.before.if1.false c.if2.false,
+          ∙ abducibles_next a.content.now _ a.atoms begun.loop-test.taken read.atom-at.ensures _ c.before.if1.false c.if2.false,
     )
 
 returns-3 : tie.Need-returns-3 invariant-loop decreases-loop
 returns-3 c =
     let a = (start c.before).args in
-    sym (c.before.loop.invariant.1 ∙ abducibles-done a.content.now _ a.atoms _ c.loop-test.false)
+    sym (c.before.loop.invariant.1 ∙ abducibles_done a.content.now _ a.atoms _ c.loop-test.false)
 
-pub abducibles-fault-spec : {M : Type 1} → statement M
-abducibles-fault-spec =
+pub abducibles_fault_spec : {M : Type 1} → statement M
+abducibles_fault_spec =
     tie.close
     (tie.spec
     invariant-loop

@@ -3,9 +3,9 @@
 use borrow.Author.Rules.{rules}
 use mathlib.Core.Path.{ap, ◌∙◌}
 use Prim.Native.Nat.{ℕ}
-use Rattle.literals.specs.Numbering.{literalListed}
-use Rattle.literals.specs.BodyLiterals.{bodyListed}
-use Rattle.papers.specs.Content.{literalAllowed}
+use Rattle.literals.specs.Numbering.{literal_listed}
+use Rattle.literals.specs.BodyLiterals.{body_listed}
+use Rattle.papers.specs.Content.{literal_allowed}
 use Rattle.content.proofs.is_allowed.Statement.{statement}
 use Rattle.content.proofs.is_allowed.Tie as tie
 
@@ -16,10 +16,10 @@ is-body-listed-requires : tie.Need-is-body-listed-requires
 is-body-listed-requires c κs = search rules
 
 returns : tie.Need-returns
-unfolding literalAllowed
+unfolding literal_allowed
 returns c =
     let start = c.before.before.before.before in
-    rw c.before.before.if1.true (c.is-body-listed.ensures ∙ ap (bodyListed start.args.atoms) c.before.body-literal-at.ensures.0)
+    rw c.before.before.if1.true (c.is-body-listed.ensures ∙ ap (body_listed start.args.atoms) c.before.body-literal-at.ensures.0)
 
 literal-at-requires : tie.Need-literal-at-requires
 literal-at-requires c κs = search rules
@@ -28,14 +28,14 @@ is-literal-listed-requires : tie.Need-is-literal-listed-requires
 is-literal-listed-requires c κs = search rules
 
 returns-2 : tie.Need-returns-2
-unfolding literalAllowed
+unfolding literal_allowed
 returns-2 c =
     let start = c.before.before.before.before in
     rw c.before.before.if1.false
-    (c.is-literal-listed.ensures ∙ ap (λ (l : ℕ). literalListed start.args.atoms l) c.before.literal-at.ensures.0)
+    (c.is-literal-listed.ensures ∙ ap (λ (l : ℕ). literal_listed start.args.atoms l) c.before.literal-at.ensures.0)
 
-pub is-allowed-spec : {M : Type 1} → statement M
-is-allowed-spec =
+pub is_allowed_spec : {M : Type 1} → statement M
+is_allowed_spec =
     tie.close
     (tie.spec
     body-literal-at-requires

@@ -6,14 +6,14 @@ use mathlib.Core.Path.{◌≡◌, refl, sym, ◌∙◌}
 use Prim.Native.Nat.{◌≤◌, ◌-◌, ◌*◌}
 use lib.ListN.{drop}
 use Rattle.papers.specs.Field.{numbers}
-use Rattle.papers.specs.Content.{isAmong}
-use Rattle.papers.proofs.NumbersWalked.{among-done, among-stop, among_next}
+use Rattle.papers.specs.Content.{is_among}
+use Rattle.papers.proofs.NumbersWalked.{among_done, among_stop, among_next}
 use Rattle.content.proofs.is_among.Statement.{statement}
 use Rattle.content.proofs.is_among.Tie as tie
 
 abbrev invariant-loop : tie.invariant-loop
 invariant-loop abducibles atom count i₀ i =
-    (i ≤ count) × (isAmong (numbers abducibles) atom.0 ≡ isAmong (numbers (drop (2 * i) abducibles)) atom.0)
+    (i ≤ count) × (is_among (numbers abducibles) atom.0 ≡ is_among (numbers (drop (2 * i) abducibles)) atom.0)
 
 abbrev decreases-loop : tie.decreases-loop
 decreases-loop abducibles atom count i₀ i = count - i
@@ -42,7 +42,7 @@ returns c =
     let a = (start begun.before).args in
     sym
     (begun.before.loop.inv.1
-    ∙ among-stop a.abducibles.now _ a.atom.0 begun.loop-test.taken read.atom-at.ensures c.if1.true)
+    ∙ among_stop a.abducibles.now _ a.atom.0 begun.loop-test.taken read.atom-at.ensures c.if1.true)
 
 add-i : tie.Need-overflow-add-i invariant-loop decreases-loop
 add-i c = search rules
@@ -63,10 +63,10 @@ loop-again c =
 returns-2 : tie.Need-returns-2 invariant-loop decreases-loop
 returns-2 c =
     let a = (start c.before).args in
-    sym (c.before.loop.invariant.1 ∙ among-done a.abducibles.now _ a.atom.0 c.loop-test.false)
+    sym (c.before.loop.invariant.1 ∙ among_done a.abducibles.now _ a.atom.0 c.loop-test.false)
 
-pub is-among-spec : {M : Type 1} → statement M
-is-among-spec =
+pub is_among_spec : {M : Type 1} → statement M
+is_among_spec =
     tie.close
     (tie.spec
     invariant-loop

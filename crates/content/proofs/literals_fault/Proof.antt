@@ -7,14 +7,14 @@ use borrow.Author.Tests.{not-true, not-false}
 use Prim.Native.Nat.{◌≤◌, ◌-◌, ◌*◌}
 use lib.ListN.{drop}
 use Rattle.papers.specs.Field.{numbers}
-use Rattle.papers.specs.Content.{literalsFault}
-use Rattle.papers.proofs.NumbersWalked.{literals-done, literals-stop, literals-next}
+use Rattle.papers.specs.Content.{literals_fault}
+use Rattle.papers.proofs.NumbersWalked.{literals_done, literals_stop, literals_next}
 use Rattle.content.proofs.literals_fault.Statement.{statement}
 use Rattle.content.proofs.literals_fault.Tie as tie
 
 abbrev invariant-loop : tie.invariant-loop
 invariant-loop content atoms in_body count i₀ i =
-    (i ≤ count) × (literalsFault in_body atoms (numbers content) ≡ literalsFault in_body atoms (numbers (drop (2 * i) content)))
+    (i ≤ count) × (literals_fault in_body atoms (numbers content) ≡ literals_fault in_body atoms (numbers (drop (2 * i) content)))
 
 abbrev decreases-loop : tie.decreases-loop
 decreases-loop content atoms in_body count i₀ i = count - i
@@ -44,7 +44,7 @@ returns c =
     let unlisted = sym tested.is-allowed.ensures ∙ not-true _ c.if1.true in
     sym
     (begun.before.loop.inv.1
-    ∙ literals-stop a.content.now _ a.atoms begun.loop-test.taken refl a.in_body unlisted)
+    ∙ literals_stop a.content.now _ a.atoms begun.loop-test.taken refl a.in_body unlisted)
 
 add-i : tie.Need-overflow-add-i invariant-loop decreases-loop
 add-i c = search rules
@@ -60,16 +60,16 @@ loop-again c =
     let listed = sym tested.is-allowed.ensures ∙ not-false _ c.if1.false in (
       omega arith,
       begun.before.loop.inv.1
-          ∙ literals-next a.content.now _ a.atoms begun.loop-test.taken refl a.in_body listed,
+          ∙ literals_next a.content.now _ a.atoms begun.loop-test.taken refl a.in_body listed,
     )
 
 returns-2 : tie.Need-returns-2 invariant-loop decreases-loop
 returns-2 c =
     let a = (start c.before).args in
-    sym (c.before.loop.invariant.1 ∙ literals-done a.content.now _ a.atoms a.in_body c.loop-test.false)
+    sym (c.before.loop.invariant.1 ∙ literals_done a.content.now _ a.atoms a.in_body c.loop-test.false)
 
-pub literals-fault-spec : {M : Type 1} → statement M
-literals-fault-spec =
+pub literals_fault_spec : {M : Type 1} → statement M
+literals_fault_spec =
     tie.close
     (tie.spec
     invariant-loop

@@ -5,9 +5,9 @@ use mathlib.Core.Bool.{true}
 use mathlib.Core.List.{List}
 use Prim.Native.Nat.{ℕ, ◌*◌, ◌/◌, ◌<◌}
 use Rattle.papers.specs.Field.{numbers}
-use Rattle.papers.specs.Content.{isAmong, literalsFault}
-use Rattle.papers.proofs.NumbersWalked.{to_end, rule-unlisted, rule-fixed, rule-body}
-use Rattle.conjugates.proofs.ConjugateLaws.{atom-tells, no-atom-tells}
+use Rattle.papers.specs.Content.{is_among, literals_fault}
+use Rattle.papers.proofs.NumbersWalked.{to_end, rule_unlisted, rule_fixed, rule_body}
+use Rattle.conjugates.proofs.ConjugateLaws.{atom_tells, no_atom_tells}
 use borrow.Author.Rules.{rules}
 use Rattle.content.proofs.rule_fault.Statement.{statement}
 use Rattle.content.proofs.rule_fault.Tie as tie
@@ -29,9 +29,9 @@ module _ (c : tie.After-is-among) where
 
   -- The head is listed, and the atom looked for is its own.
   owned : (head < 2 * (start read).args.atoms) × (c.before.before.head.given.0.0.0 ≡ head / 2)
-  owned = atom-tells (start read).args.atoms head (sym c.before.before.before.before.atom-of.ensures ∙ c.before.before.head.given.1)
+  owned = atom_tells (start read).args.atoms head (sym c.before.before.before.before.atom-of.ensures ∙ c.before.before.head.given.1)
 
-  among : c.is_among.result ≡ isAmong (numbers (start read).args.abducibles.now) (head / 2)
+  among : c.is_among.result ≡ is_among (numbers (start read).args.abducibles.now) (head / 2)
   among = rw (← owned.1) c.is_among.ensures
 
 objective-at-requires : tie.Need-objective-at-requires
@@ -50,8 +50,8 @@ returns : tie.Need-returns
 returns c =
     let read = c.before.before.before in
     let a = (start read).args in
-    let past = no-atom-tells a.atoms read.objective-at.result.0 (sym c.before.before.atom-of.ensures ∙ c.enum_told.given.1) in
-    sym (rule-unlisted a.atoms _ a.content.now (start read).requires read.objective-at.ensures.0 past)
+    let past = no_atom_tells a.atoms read.objective-at.result.0 (sym c.before.before.atom-of.ensures ∙ c.enum_told.given.1) in
+    sym (rule_unlisted a.atoms _ a.content.now (start read).requires read.objective-at.ensures.0 past)
 
 is-among-requires : tie.Need-is-among-requires
 is-among-requires c κs = search rules
@@ -61,7 +61,7 @@ returns-2 c =
     let tested = c.before in
     let s = start (read tested) in
     sym
-    (rule-fixed s.args.atoms _ s.args.content.now s.pre (read tested).objective-at.ensures.0 (owned tested).0
+    (rule_fixed s.args.atoms _ s.args.content.now s.pre (read tested).objective-at.ensures.0 (owned tested).0
     (sym (among tested) ∙ c.if1.true))
 
 sub-literals-fault : tie.Need-overflow-sub-literals-fault
@@ -81,13 +81,13 @@ returns-3 c =
     let tested = c.before.before.before in
     let s = start (read tested) in
     c.literals-fault.ensures
-    ∙ ap (λ (l : List ℕ). literalsFault true s.args.atoms (numbers l)) (to_end 2 s.args.content.now)
+    ∙ ap (λ (l : List ℕ). literals_fault true s.args.atoms (numbers l)) (to_end 2 s.args.content.now)
     ∙ sym
-    (rule-body s.args.atoms _ s.args.content.now s.pre (read tested).objective-at.ensures.0 (owned tested).0
+    (rule_body s.args.atoms _ s.args.content.now s.pre (read tested).objective-at.ensures.0 (owned tested).0
     (sym (among tested) ∙ c.before.before.if1.false))
 
-pub rule-fault-spec : {M : Type 1} → statement M
-rule-fault-spec =
+pub rule_fault_spec : {M : Type 1} → statement M
+rule_fault_spec =
     tie.close
     (tie.spec
     objective-at-requires

@@ -4,7 +4,7 @@ use borrow.Author.Rules.{rules}
 use native.Mathlib.Omega.{arith}
 use Prim.Native.Nat.{◌+◌, ◌-◌, ◌≤◌, ◌<◌}
 use lib.ListN.{length}
-use Rattle.copying.proofs.CopyLaws.{CopiedTo, copied_none, copied-room, copied_more, copied_all}
+use Rattle.copying.proofs.CopyLaws.{CopiedTo, copied_none, copied_room, copied_more, copied_all}
 use Rattle.copying.proofs.copy_numbers.Statement.{statement}
 use Rattle.copying.proofs.copy_numbers.Tie as tie
 
@@ -19,7 +19,7 @@ room : (c : tie.In-loop invariant-loop decreases-loop) → c.before.before.befor
 room c =
     let s = c.before.before.before.before in
     let l = c.before.loop in
-    copied-room s.args.bytes.now s.args.values.now s.args.at s.requires l.i l.values l.invariant.1 c.loop-test.true
+    copied_room s.args.bytes.now s.args.values.now s.args.at s.requires l.i l.values l.invariant.1 c.loop-test.true
 
 loop-holds : tie.Need-loop-init invariant-loop decreases-loop
 loop-holds c =
@@ -68,8 +68,8 @@ returns c =
     let l = c.before.loop in
     copied_all s.args.bytes.now s.args.values.now s.args.at s.requires l.i l.values l.invariant.1 c.loop-test.false
 
-pub copy-numbers-spec : {M : Type 1} → statement M
-copy-numbers-spec =
+pub copy_numbers_spec : {M : Type 1} → statement M
+copy_numbers_spec =
     tie.close
     (tie.spec
     invariant-loop

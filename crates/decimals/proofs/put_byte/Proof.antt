@@ -6,7 +6,7 @@ use mathlib.Core.Logic.{⊎_elim}
 use lib.ListN.{length}
 use borrow.Author.Rules.{rules}
 use Rattle.decimals.specs.Text.{written}
-use Rattle.decimals.proofs.Putting.{written-length, written_one, written_out}
+use Rattle.decimals.proofs.Putting.{written_length, written_one, written_out}
 use Rattle.decimals.proofs.put_byte.Statement.{statement}
 use Rattle.decimals.proofs.put_byte.Tie as tie
 
@@ -25,10 +25,10 @@ add-result : tie.Need-overflow-add-result
 add-result c = search rules
 
 same_length : tie.Need-same-length
-same_length c = ap length (put c) ∙ written-length c.before.args.at (c.before.args.byte ∷ []) c.before.args.buffer.now
+same_length c = ap length (put c) ∙ written_length c.before.args.at (c.before.args.byte ∷ []) c.before.args.buffer.now
 
 returns : tie.Need-returns
 returns c = record { place = refl; bytes = put c }
 
-pub put-byte-spec : {M : Type 1} → statement M
-put-byte-spec = tie.close (tie.spec slice-write-buffer add-result same_length returns)
+pub put_byte_spec : {M : Type 1} → statement M
+put_byte_spec = tie.close (tie.spec slice-write-buffer add-result same_length returns)

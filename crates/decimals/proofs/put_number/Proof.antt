@@ -23,5 +23,5 @@ returns c =
     let number = c.before.before.put-decimal in
     (put_two a.text.now (decimal a.n) text.ensures number.ensures.0, let p = text.ensures.place in let q = number.ensures.1 in omega arith)
 
-pub put-number-spec : {M : Type 1} → statement M
-put-number-spec = tie.close (tie.spec put-text-requires put-decimal-requires same_length returns)
+pub put_number_spec : {M : Type 1} → statement M
+put_number_spec = tie.close (tie.spec put-text-requires put-decimal-requires same_length returns)

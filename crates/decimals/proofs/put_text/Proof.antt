@@ -5,7 +5,7 @@ use mathlib.Core.List.{[]}
 use Prim.Native.Nat.{◌+◌, ◌-◌, ◌≤◌}
 use native.Mathlib.Omega.{arith}
 use lib.ListN.{length, drop, drop_of_length-le}
-use Rattle.decimals.proofs.Putting.{Left, left-all, left-byte, left-none}
+use Rattle.decimals.proofs.Putting.{Left, left_all, left_byte, left_none}
 use Rattle.decimals.proofs.put_text.Statement.{statement}
 use Rattle.decimals.proofs.put_text.Tie as tie
 
@@ -17,7 +17,7 @@ abbrev decreases-loop : tie.decreases-loop
 decreases-loop buffer₀ at text end₀ i₀ buffer end i = length text - i
 
 loop-holds : tie.Need-loop-init invariant-loop decreases-loop
-loop-holds c = let a = c.before.before.args in (left-all a.at a.text.now a.buffer.now, (omega arith, (omega arith, refl)))
+loop-holds c = let a = c.before.before.args in (left_all a.at a.text.now a.buffer.now, (omega arith, (omega arith, refl)))
 
 shared-slice-read-put-byte : tie.Need-shared-slice-read-put-byte invariant-loop decreases-loop
 shared-slice-read-put-byte c = omega arith
@@ -36,7 +36,7 @@ loop-again c =
     let put = c.before.before.put_byte in
     let l = c.before.before.before.before.before.before.loop in
     let a = c.before.before.before.before.before.before.before.before.before.args in (
-      left-byte l.i a.text.now c.before.before.before.before.before.loop-test.true put.ensures l.invariant.0,
+      left_byte l.i a.text.now c.before.before.before.before.before.loop-test.true put.ensures l.invariant.0,
       (omega arith, (omega arith, put.auto.0 ∙ l.invariant.1.1.1)),
     )
 
@@ -48,10 +48,10 @@ returns c =
     let a = c.before.before.before.before.args in
     let l = c.before.loop in
     let e : drop l.i a.text.now ≡ [] = drop_of_length-le a.text.now {i = l.i} c.loop-test.false in
-    left-none (rw e at l.invariant.0)
+    left_none (rw e at l.invariant.0)
 
-pub put-text-spec : {M : Type 1} → statement M
-put-text-spec =
+pub put_text_spec : {M : Type 1} → statement M
+put_text_spec =
     tie.close
     (tie.spec
     invariant-loop

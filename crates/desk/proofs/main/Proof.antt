@@ -6,7 +6,7 @@ use native.Mathlib.Omega.{arith}
 use borrow.Author.Rules.{rules}
 use lib.ListN.{length, length-replicate}
 use lib.Seq.{length-take-le}
-use Rattle.desk.proofs.Printing.{handed-on}
+use Rattle.desk.proofs.Printing.{handed_on}
 use Rattle.desk.proofs.main.Statement.{statement}
 use Rattle.desk.proofs.main.Tie as tie
 
@@ -83,7 +83,7 @@ slice-aggregate-print-text-3 c =
 print-text-requires : tie.Need-print-text-requires
 print-text-requires c κs =
     let report = c.before.before.before.before.before.before.write-report in
-    handed-on report.ensures.0 (let m = report.ensures.1 in omega (arith, length-replicate {A = ℕ} 98304 0))
+    handed_on report.ensures.0 (let m = report.ensures.1 in omega (arith, length-replicate {A = ℕ} 98304 0))
 
 returns : tie.Need-returns
 returns c = search rules

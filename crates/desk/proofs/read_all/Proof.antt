@@ -108,8 +108,8 @@ same-length-3 c = c.before.loop.invariant.1
 returns-3 : tie.Need-returns-3 invariant-loop decreases-loop
 returns-3 c = (c.before.loop.invariant.0, sym (length-take-le _ _ c.before.loop.invariant.0))
 
-pub read-all-spec : {M : Type 1} → statement M
-read-all-spec =
+pub read_all_spec : {M : Type 1} → statement M
+read_all_spec =
     tie.close
     (tie.spec
     invariant-loop

@@ -13,14 +13,14 @@ use Rattle.papers.specs.declared.FileRead.TheVariants.{Accepted}
 use Rattle.papers.specs.Program.{Program}
 use Rattle.papers.specs.Valid.{Valid}
 use Rattle.papers.specs.Field.{numbers}
-use Rattle.papers.specs.Reading.{readFile, programIn}
-use Rattle.papers.specs.Answers.{fileAnswer}
+use Rattle.papers.specs.Reading.{read_file, program_in}
+use Rattle.papers.specs.Answers.{file_answer}
 use Rattle.papers.proofs.NumberLaws.{Bytes}
-use Rattle.papers.proofs.FoldsWalked.{abducibles-there}
-use Rattle.papers.proofs.FileFacts.{atoms_are, abducibles-are, program-valid}
+use Rattle.papers.proofs.FoldsWalked.{abducibles_there}
+use Rattle.papers.proofs.FileFacts.{atoms_are, abducibles_are, program_valid}
 use Rattle.digits.proofs.ClearedWords.{cleared as cleared-of}
-use Rattle.digits.proofs.Powers.{power-fits}
-use Rattle.digits.proofs.SeedLaws.{Seeding, seeding-none, seeding-below, seeding-more, seeding-ends}
+use Rattle.digits.proofs.Powers.{power_fits}
+use Rattle.digits.proofs.SeedLaws.{Seeding, seeding_none, seeding_below, seeding_more, seeding_ends}
 use Rattle.digits.proofs.abducible_lanes.Statement.{statement}
 use Rattle.digits.proofs.abducible_lanes.Tie as tie
 
@@ -30,17 +30,17 @@ part file contents = take (12 + 2 * contents.abducibles - 12) (drop 12 file)
 
 -- It lists the program's abducibles.
 record Listed (file : List ℕ) (contents : Contents) : Type 0 where
-  numbered : numbers (part file contents) ≡ (programIn file).abducibles
+  numbered : numbers (part file contents) ≡ (program_in file).abducibles
   long : length (part file contents) ≡ 2 * contents.abducibles
   few : contents.abducibles ≤ 16
 
-listed-is : (file : List ℕ) (contents : Contents) → fileAnswer (readFile file) ≡ Accepted contents → Bytes file → Listed file contents
-listed-is file contents answer b =
-    let t = abducibles-there file contents answer b in
+listed_is : (file : List ℕ) (contents : Contents) → file_answer (read_file file) ≡ Accepted contents → Bytes file → Listed file contents
+listed_is file contents answer b =
+    let t = abducibles_there file contents answer b in
     let e : 12 + 2 * contents.abducibles - 12 ≡ 2 * contents.abducibles = omega arith in
     let l = length-take-le (2 * contents.abducibles) (drop 12 file) (omega (arith, length-drop 12 file, t.0)) in
-    let k = abducibles-are file contents answer in
-    let v = (program-valid file contents answer).fewAbducibles in
+    let k = abducibles_are file contents answer in
+    let v = (program_valid file contents answer).few_abducibles in
     record { numbered = rw e t.1; long = rw e l; few = omega arith }
 
 abbrev invariant-loop : tie.invariant-loop
@@ -60,26 +60,26 @@ module _ (c : tie.After-shared-slice-known invariant-loop decreases-loop) where
   file = start.args.file.now
 
   abbrev program : Program
-  program = programIn file
+  program = program_in file
 
   abbrev contents : Contents
   contents = start.args.contents
 
   valid : Valid program
-  valid = program-valid file contents start.pre.0
+  valid = program_valid file contents start.pre.0
 
   there : 12 + 2 * contents.abducibles ≤ length file
-  there = omega (arith, (abducibles-there file contents start.pre.0 (λ x. (c.shared-slice-known.given x).fits)).0)
+  there = omega (arith, (abducibles_there file contents start.pre.0 (λ x. (c.shared-slice-known.given x).fits)).0)
 
   listed : Listed file contents
-  listed = listed-is file contents start.pre.0 (λ x. (c.shared-slice-known.given x).fits)
+  listed = listed_is file contents start.pre.0 (λ x. (c.shared-slice-known.given x).fits)
 
 module _ (c : tie.After-judged invariant-loop decreases-loop) where
-  all-judged : c.judged.result ≡ judged (program c.before).atoms
-  all-judged = omega (arith, c.judged.ensures, atoms_are (file c.before) (contents c.before) (start c.before).pre.0)
+  all_judged : c.judged.result ≡ judged (program c.before).atoms
+  all_judged = omega (arith, c.judged.ensures, atoms_are (file c.before) (contents c.before) (start c.before).pre.0)
 
   most : c.judged.result ≤ 513
-  most = omega (arith, all-judged, (valid c.before).fewAtoms)
+  most = omega (arith, all_judged, (valid c.before).few_atoms)
 
 -- ---- at the loop
 
@@ -96,7 +96,7 @@ module _ (c : tie.At-loop invariant-loop decreases-loop) where
 
   -- The power of 3 is one of the first sixteen.
   bounded : (0 < c.loop.power) × (c.loop.power ≤ 43046721)
-  bounded = power-fits c.loop.invariant.1.raised (omega (arith, (listed known).few))
+  bounded = power_fits c.loop.invariant.1.raised (omega (arith, (listed known).few))
 
 -- ---- once an atom is read
 
@@ -105,15 +105,15 @@ module _ (c : tie.After-atom-at invariant-loop decreases-loop) where
   head = c.before.before
 
   -- The atom is one of the file's.
-  listed-atom : c.atom-at.result.0 < (program (known head)).atoms
-  listed-atom =
+  listed_atom : c.atom-at.result.0 < (program (known head)).atoms
+  listed_atom =
       let k = known head in
-      seeding-below head.loop.inv.1 (omega (arith, (listed k).long)) c.atom-at.ensures (program k).atoms
-      (rw (listed k).numbered (valid k).abduciblesListed)
+      seeding_below head.loop.inv.1 (omega (arith, (listed k).long)) c.atom-at.ensures (program k).atoms
+      (rw (listed k).numbered (valid k).abducibles_listed)
 
   -- So both its literals are judged.
   few : negative c.atom-at.result.0 < (counted (cleared head)).judged.result
-  few = omega (arith, listed-atom, all-judged (counted (cleared head)))
+  few = omega (arith, listed_atom, all_judged (counted (cleared head)))
 
 -- ---- once its two literals are known
 
@@ -121,11 +121,11 @@ module _ (c : tie.After-negative invariant-loop decreases-loop) where
   abbrev read : tie.After-atom-at invariant-loop decreases-loop
   read = c.before.before.before
 
-  at-few : c.before.positive.result.0 < 513
-  at-few = omega (arith, c.before.positive.ensures, few read, most (counted (cleared (head read))))
+  at_few : c.before.positive.result.0 < 513
+  at_few = omega (arith, c.before.positive.ensures, few read, most (counted (cleared (head read))))
 
-  opposite-few : c.negative.result.0 < 513
-  opposite-few = omega (arith, c.negative.ensures, few read, most (counted (cleared (head read))))
+  opposite_few : c.negative.result.0 < 513
+  opposite_few = omega (arith, c.negative.ensures, few read, most (counted (cleared (head read))))
 
 judged-requires : tie.Need-judged-requires invariant-loop decreases-loop
 judged-requires c κs = search rules
@@ -157,7 +157,7 @@ loop-holds c =
     let trues = falses.before.before in
     let k = (counted falses).before in (
       omega arith,
-      seeding-none (counted falses).judged.result (start k).args.base (part (file k) (contents k)) (cleared-of trues.fill-words.ensures)
+      seeding_none (counted falses).judged.result (start k).args.base (part (file k) (contents k)) (cleared-of trues.fill-words.ensures)
           (cleared-of falses.fill-words2.ensures),
     )
 
@@ -177,28 +177,28 @@ negative-requires : tie.Need-negative-requires invariant-loop decreases-loop
 negative-requires c κs = search rules
 
 mul-trues : tie.Need-overflow-mul-trues invariant-loop decreases-loop
-mul-trues c = omega (arith, at-few c)
+mul-trues c = omega (arith, at_few c)
 
 element-write-trues : tie.Need-element-write-trues invariant-loop decreases-loop
-element-write-trues c = at-few c
+element-write-trues c = at_few c
 
 mul-trues-2 : tie.Need-overflow-mul-trues-2 invariant-loop decreases-loop
-mul-trues-2 c = omega (arith, opposite-few c)
+mul-trues-2 c = omega (arith, opposite_few c)
 
 element-write-trues-2 : tie.Need-element-write-trues-2 invariant-loop decreases-loop
-element-write-trues-2 c = opposite-few c
+element-write-trues-2 c = opposite_few c
 
 mul-falses : tie.Need-overflow-mul-falses invariant-loop decreases-loop
-mul-falses c = omega (arith, at-few c)
+mul-falses c = omega (arith, at_few c)
 
 element-write-falses : tie.Need-element-write-falses invariant-loop decreases-loop
-element-write-falses c = at-few c
+element-write-falses c = at_few c
 
 mul-falses-2 : tie.Need-overflow-mul-falses-2 invariant-loop decreases-loop
-mul-falses-2 c = omega (arith, opposite-few c)
+mul-falses-2 c = omega (arith, opposite_few c)
 
 element-write-falses-2 : tie.Need-element-write-falses-2 invariant-loop decreases-loop
-element-write-falses-2 c = opposite-few c
+element-write-falses-2 c = opposite_few c
 
 mul_power : tie.Need-overflow-mul-power invariant-loop decreases-loop
 mul_power c = omega (arith, (bounded (head (read c))).1)
@@ -214,8 +214,8 @@ loop-again c =
     let k = known (head (read c)) in
     let digits = c.before.before.digit-lanes in (
       omega arith,
-      seeding-more (head (read c)).loop.inv.1 (omega (arith, (listed k).long)) (read c).atom-at.ensures
-          (rw (listed k).numbered (valid k).abduciblesRising) (few (read c)) (most (counted (cleared (head (read c))))) c.before.positive.result.0
+      seeding_more (head (read c)).loop.inv.1 (omega (arith, (listed k).long)) (read c).atom-at.ensures
+          (rw (listed k).numbered (valid k).abducibles_rising) (few (read c)) (most (counted (cleared (head (read c))))) c.before.positive.result.0
           c.negative.result.0 c.before.positive.ensures c.negative.ensures digits.result.assumed digits.result.ruled
           digits.ensures.0 digits.ensures.1,
     )
@@ -224,11 +224,11 @@ returns : tie.Need-returns invariant-loop decreases-loop
 returns c =
     let falses = cleared c.before in
     let k = known c.before in
-    seeding-ends c.before.loop.invariant.1 (program k) (all-judged (counted falses)) (listed k).numbered (omega (arith, (listed k).long))
+    seeding_ends c.before.loop.invariant.1 (program k) (all_judged (counted falses)) (listed k).numbered (omega (arith, (listed k).long))
     (cleared-of falses.before.before.fill-words.ensures) (cleared-of falses.fill-words2.ensures)
 
-pub abducible-lanes-spec : {M : Type 1} → statement M
-abducible-lanes-spec =
+pub abducible_lanes_spec : {M : Type 1} → statement M
+abducible_lanes_spec =
     tie.close
     (tie.spec
     invariant-loop

@@ -4,7 +4,7 @@ use borrow.Author.Rules.{rules}
 use Prim.Native.Nat.{◌-◌}
 use native.Mathlib.Nat.{mod-lt}
 use native.Mathlib.Omega.{arith}
-use Rattle.digits.proofs.DigitLaws.{Digits, digits-none, digits-small, digits_more, digits-all}
+use Rattle.digits.proofs.DigitLaws.{Digits, digits_none, digits_small, digits_more, digits_all}
 use Rattle.digits.proofs.digit_lanes.Statement.{statement}
 use Rattle.digits.proofs.digit_lanes.Tie as tie
 
@@ -24,7 +24,7 @@ sub-left : tie.Need-overflow-sub-left invariant-loop decreases-loop
 sub-left c = omega (arith, mod-lt c.args.base c.requires.0)
 
 loop-holds : tie.Need-loop-init invariant-loop decreases-loop
-loop-holds c = digits-none c.args.base c.args.power c.requires.0
+loop-holds c = digits_none c.args.base c.args.power c.requires.0
 
 add-run-lanes : tie.Need-overflow-add-run-lanes invariant-loop decreases-loop
 add-run-lanes c = omega arith
@@ -39,7 +39,7 @@ joined-if-requires-2 : tie.Need-joined-if-requires-2 invariant-loop decreases-lo
 joined-if-requires-2 c κs = search rules
 
 next-digit-requires : tie.Need-next-digit-requires invariant-loop decreases-loop
-next-digit-requires c κs = digits-small c.before.before.before.before.loop.invariant
+next-digit-requires c κs = digits_small c.before.before.before.before.loop.invariant
 
 add-lane : tie.Need-overflow-add-lane invariant-loop decreases-loop
 add-lane c = omega arith
@@ -55,10 +55,10 @@ loop-again c =
     c.next-digit.ensures
 
 returns : tie.Need-returns invariant-loop decreases-loop
-returns c = digits-all c.before.loop.invariant c.loop-test.false
+returns c = digits_all c.before.loop.invariant c.loop-test.false
 
-pub digit-lanes-spec : {M : Type 1} → statement M
-digit-lanes-spec =
+pub digit_lanes_spec : {M : Type 1} → statement M
+digit_lanes_spec =
     tie.close
     (tie.spec
     invariant-loop

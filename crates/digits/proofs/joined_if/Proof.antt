@@ -9,5 +9,5 @@ returns c = rw c.if1.true
 returns-2 : tie.Need-returns-2
 returns-2 c = rw c.if1.false
 
-pub joined-if-spec : {M : Type 1} → statement M
-joined-if-spec = tie.close (tie.spec returns returns-2)
+pub joined_if_spec : {M : Type 1} → statement M
+joined_if_spec = tie.close (tie.spec returns returns-2)

@@ -7,12 +7,12 @@ use borrow.Author.Tests.{not-true, not-false}
 use lib.ListN.{length, length-drop}
 use Rattle.papers.specs.Outcome.{accepted}
 use Rattle.papers.specs.Program.{Program}
-use Rattle.papers.specs.Reading.{readFile, programIn}
+use Rattle.papers.specs.Reading.{read_file, program_in}
 use Rattle.papers.proofs.FileFacts.{told}
 use Rattle.papers.proofs.NumbersWalked.{to_end}
-use Rattle.dual.proofs.FilledLaws.{put-end}
+use Rattle.dual.proofs.FilledLaws.{put_end}
 use Rattle.dual_writer.specs.Chains.{Chained}
-use Rattle.dual_writer.proofs.TableWriting.{table-length, end-written, dual-short, dual-length-is, dual-fits}
+use Rattle.dual_writer.proofs.TableWriting.{table_length, end_written, dual_short, dual_length_is, dual_fits}
 use borrow.Author.Rules.{rules}
 use Rattle.dual_writer.proofs.write_accepted.Statement.{statement}
 use Rattle.dual_writer.proofs.write_accepted.Tie as tie
@@ -21,9 +21,9 @@ use Rattle.dual_writer.proofs.write_accepted.Tie as tie
 
 module _ (c : tie.Start) where
   abbrev program : Program
-  program = programIn c.args.file.now
+  program = program_in c.args.file.now
 
-  read : readFile c.args.file.now ≡ accepted program
+  read : read_file c.args.file.now ≡ accepted program
   read = (told c.args.file.now c.args.contents c.requires.answer).is
 
 -- ---- once the folds are chained
@@ -57,8 +57,8 @@ module _ (c : tie.After-write-entries) where
   room : c.write_entries.result + 3 ≤ length c.write_entries.new.0
   room =
       let w = c.write_entries in
-      let size = table-length (program (start counted)) in
-      omega (arith, w.ensures.0, w.auto.0, counted.dual-length.ensures, long.if1.left)
+      let size = table_length (program (start counted)) in
+      omega (arith, w.ensures.0, w.auto.0, counted.dual_length_lem.ensures, long.if1.left)
 
 fold-chains-requires : tie.Need-fold-chains-requires
 fold-chains-requires c κs = search rules
@@ -70,21 +70,21 @@ returns : tie.Need-returns
 returns c =
     let s = start c.before in
     let a = s.args in
-    dual-short a.file.now a.dual.now (program s) (read s) c.before.dual-length.ensures a.allowed c.if1.true
+    dual_short a.file.now a.dual.now (program s) (read s) c.before.dual_length_lem.ensures a.allowed c.if1.true
 
 returns-2 : tie.Need-returns-2
 returns-2 c =
     let counted = c.before.before in
     let s = start counted in
     let a = s.args in
-    let size = dual-length-is a.file.now a.dual.now (program s) (read s) counted.dual-length.ensures c.before.if1.false in
+    let size = dual_length_is a.file.now a.dual.now (program s) (read s) counted.dual_length_lem.ensures c.before.if1.false in
     (size, rw (not-true a.allowed c.if2.true))
 
 write-entries-requires : tie.Need-write-entries-requires
 write-entries-requires c κs =
     let long = c.before.before.before.before in
     let counted = long.before in
-    (linked (chained counted), omega (arith, counted.dual-length.ensures, long.if1.false))
+    (linked (chained counted), omega (arith, counted.dual_length_lem.ensures, long.if1.false))
 
 sub-write-end : tie.Need-overflow-sub-write-end
 sub-write-end c = omega (arith, room c.before.before)
@@ -112,17 +112,17 @@ returns-3 c =
     let w = entries.write_entries in
     let s = start (counted entries) in
     let a = s.args in
-    let size = (counted entries).dual-length.ensures in
+    let size = (counted entries).dual_length_lem.ensures in
     let fits = (long entries).if1.false in
     let end = rw (to_end w.result w.new.0) at ended.ensures in
-    let whole = end-written (program s) a.dual.now w.new.0 ended.new.0 w.result w.ensures.0 w.ensures.1 end in (
-      dual-length-is a.file.now a.dual.now (program s) (read s) size fits,
+    let whole = end_written (program s) a.dual.now w.new.0 ended.new.0 w.result w.ensures.0 w.ensures.1 end in (
+      dual_length_is a.file.now a.dual.now (program s) (read s) size fits,
       rw (not-false a.allowed entries.before.before.before.before.if2.false)
-          (dual-fits a.file.now a.dual.now (program s) (read s) size fits _ (put-end w.result w.new.0 ended.new.0 ∙ whole)),
+          (dual_fits a.file.now a.dual.now (program s) (read s) size fits _ (put_end w.result w.new.0 ended.new.0 ∙ whole)),
     )
 
-pub write-accepted-spec : {M : Type 1} → statement M
-write-accepted-spec =
+pub write_accepted_spec : {M : Type 1} → statement M
+write_accepted_spec =
     tie.close
     (tie.spec
     fold-chains-requires

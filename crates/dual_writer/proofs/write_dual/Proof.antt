@@ -1,10 +1,10 @@
 -- `dual_writer::write_dual` meets its contract.
 -- Assumes nothing.
 use mathlib.Core.Path.{sym, ◌∙◌}
-use Rattle.papers.specs.Reading.{readFile}
-use Rattle.papers.proofs.ReadersGot.{file-refused}
-use Rattle.papers.proofs.ToldLaws.{file-told}
-use Rattle.dual_writer.specs.WrittenDual.{writtenTold, dualTold}
+use Rattle.papers.specs.Reading.{read_file}
+use Rattle.papers.proofs.ReadersGot.{file_refused}
+use Rattle.papers.proofs.ToldLaws.{file_told_lem}
+use Rattle.dual_writer.specs.WrittenDual.{written_told, dual_told}
 use borrow.Author.Rules.{rules}
 use Rattle.dual_writer.proofs.write_dual.Statement.{statement}
 use Rattle.dual_writer.proofs.write_dual.Tie as tie
@@ -28,16 +28,16 @@ returns : tie.Need-returns
 returns c = search rules
 
 returns-2 : tie.Need-returns-2
-unfolding writtenTold dualTold
+unfolding written_told dual_told
 returns-2 c =
     let other = c.before.before.before.before in
     let read = other.before.before in
     let file = read.before.before.before.args.file in
-    let e = file-refused (readFile file.now) (file-told _ read.read-file.ensures) (other.read2.given.1 ∙ c.before.read3.given.1) in
+    let e = file_refused (read_file file.now) (file_told_lem _ read.read-file.ensures) (other.read2.given.1 ∙ c.before.read3.given.1) in
     (rw e, rw e)
 
 fold-places-requires : tie.Need-fold-places-requires
-fold-places-requires c κs = sym (file-told _ c.before.before.before.read-file.ensures) ∙ c.before.read.given.1
+fold-places-requires c κs = sym (file_told_lem _ c.before.before.before.read-file.ensures) ∙ c.before.read.given.1
 
 write-accepted-requires : tie.Need-write-accepted-requires
 write-accepted-requires c κs = search rules
@@ -48,8 +48,8 @@ same_length c = search rules
 returns-3 : tie.Need-returns-3
 returns-3 c = search rules
 
-pub write-dual-spec : {M : Type 1} → statement M
-write-dual-spec =
+pub write_dual_spec : {M : Type 1} → statement M
+write_dual_spec =
     tie.close
     (tie.spec
     read-file-requires

@@ -5,7 +5,7 @@ use mathlib.Core.List.{List}
 use Prim.Native.Nat.{ℕ, ◌/◌, ◌%◌}
 use native.Mathlib.Omega.{arith}
 use lib.ListN.{set, length-set}
-use Rattle.dual.proofs.FilledLaws.{filled-heading}
+use Rattle.dual.proofs.FilledLaws.{filled_heading}
 use borrow.Author.Rules.{rules}
 use Rattle.field_writer.proofs.put_heading.Statement.{statement}
 use Rattle.field_writer.proofs.put_heading.Tie as tie
@@ -30,9 +30,9 @@ returns c =
     let a = start.args in
     second.put-number2.ensures
     ∙ ap (λ (l : List ℕ). set (set l 3 (a.number / 256)) 4 (a.number % 256)) first.put-number.ensures
-    ∙ filled-heading a.buffer.now a.tag _ _ _ _ start.requires.0
+    ∙ filled_heading a.buffer.now a.tag _ _ _ _ start.requires.0
 
-pub put-heading-spec : {M : Type 1} → statement M
-put-heading-spec =
+pub put_heading_spec : {M : Type 1} → statement M
+put_heading_spec =
     tie.close
     (tie.spec slice-write-buffer put-number-requires put-number-requires-2 same_length returns)

@@ -2,8 +2,8 @@
 -- Assumes nothing.
 use native.Mathlib.Omega.{arith}
 use lib.ListN.{length-set}
-use Rattle.papers.specs.Encoding.{encodeField}
-use Rattle.dual.proofs.FilledLaws.{filled-three}
+use Rattle.papers.specs.Encoding.{encode_field}
+use Rattle.dual.proofs.FilledLaws.{filled_three}
 use borrow.Author.Rules.{rules}
 use Rattle.field_writer.proofs.write_end.Statement.{statement}
 use Rattle.field_writer.proofs.write_end.Tie as tie
@@ -21,10 +21,10 @@ same_length : tie.Need-same-length
 same_length c = search rules
 
 returns : tie.Need-returns
-unfolding encodeField
-returns c = filled-three c.args.buffer.now 0x7F 0 0 c.requires
+unfolding encode_field
+returns c = filled_three c.args.buffer.now 0x7F 0 0 c.requires
 
-pub write-end-spec : {M : Type 1} → statement M
-write-end-spec =
+pub write_end_spec : {M : Type 1} → statement M
+write_end_spec =
     tie.close
     (tie.spec slice-write-buffer slice-write-buffer-2 slice-write-buffer-3 same_length returns)

@@ -6,11 +6,11 @@ use Prim.Native.Nat.{ℕ, ◌+◌, ◌*◌, ◌-◌, ◌≤◌}
 use native.Mathlib.Omega.{arith}
 use lib.ListN.{length, take, length-set}
 use lib.Seq.{take_all}
-use Rattle.papers.specs.Encoding.{encodeNumbers, encodeField}
-use Rattle.papers.proofs.Sizes.{length-field}
-use Rattle.papers.proofs.NumberLaws.{length-encoded}
-use Rattle.dual.proofs.FilledLaws.{Numbered, filled-three}
-use Rattle.field_writer.proofs.FieldWriting.{fields-none, fields-more, field-filled}
+use Rattle.papers.specs.Encoding.{encode_numbers, encode_field}
+use Rattle.papers.proofs.Sizes.{length_field}
+use Rattle.papers.proofs.NumberLaws.{length_encoded}
+use Rattle.dual.proofs.FilledLaws.{Numbered, filled_three}
+use Rattle.field_writer.proofs.FieldWriting.{fields_none, fields_more, field_filled}
 use Rattle.field_writer.proofs.write_field.Statement.{statement}
 use Rattle.field_writer.proofs.write_field.Tie as tie
 
@@ -41,7 +41,7 @@ put-number-requires c κs = (simp length-set (omega arith), omega arith)
 loop-holds : tie.Need-loop-init invariant-loop decreases-loop
 loop-holds c =
     let w = c.before.before in
-    (omega arith, (fields-none (start w).args.numbers.now w.put-number.new.0 (omega (arith, kept w)), refl))
+    (omega arith, (fields_none (start w).args.numbers.now w.put-number.new.0 (omega (arith, kept w)), refl))
 
 mul_wide : tie.Need-overflow-mul-wide invariant-loop decreases-loop
 mul_wide c = search rules
@@ -79,7 +79,7 @@ loop-again c =
       omega arith,
       (
         rw put.ensures
-            (fields-more (start w).args.numbers.now w.put-number.new.0 at.buffer at.i at.invariant.1.0 (omega (arith, kept w))
+            (fields_more (start w).args.numbers.now w.put-number.new.0 at.buffer at.i at.invariant.1.0 (omega (arith, kept w))
             number.before.before.loop-test.true number.wide.ensures.0),
         put.auto.0 ∙ at.invariant.1.1,
       ),
@@ -101,15 +101,15 @@ returns c =
     let ns = a.numbers.now in
     let at = c.before.loop in
     let whole : take at.i ns ≡ ns = take_all at.i ns (omega (arith, c.loop-test.false)) in
-    let opened = w.put-number.ensures ∙ filled-three a.buffer.now a.tag _ _ (omega arith) in
-    let size : length (encodeField a.tag (encodeNumbers ns)) ≡ 3 + 2 * length ns =
-    length-field a.tag (encodeNumbers ns) ∙ ap (λ (k : ℕ). 3 + k) (length-encoded ns) in (
+    let opened = w.put-number.ensures ∙ filled_three a.buffer.now a.tag _ _ (omega arith) in
+    let size : length (encode_field a.tag (encode_numbers ns)) ≡ 3 + 2 * length ns =
+    length_field a.tag (encode_numbers ns) ∙ ap (λ (k : ℕ). 3 + k) (length_encoded ns) in (
       sym size,
-      field-filled a.tag (2 * length ns) ns a.buffer.now w.put-number.new.0 at.buffer refl (omega arith) opened (rw whole at at.invariant.1.0),
+      field_filled a.tag (2 * length ns) ns a.buffer.now w.put-number.new.0 at.buffer refl (omega arith) opened (rw whole at at.invariant.1.0),
     )
 
-pub write-field-spec : {M : Type 1} → statement M
-write-field-spec =
+pub write_field_spec : {M : Type 1} → statement M
+write_field_spec =
     tie.close
     (tie.spec
     invariant-loop

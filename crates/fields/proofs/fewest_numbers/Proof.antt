@@ -18,5 +18,5 @@ returns-3 : tie.Need-returns-3
 unfolding fewest
 returns-3 c = (rw (ne_eqb _ 2 c.before.if1.false, ne_eqb _ 4 c.if2.false), omega arith)
 
-pub fewest-numbers-spec : {M : Type 1} → statement M
-fewest-numbers-spec = tie.close (tie.spec returns returns-2 returns-3)
+pub fewest_numbers_spec : {M : Type 1} → statement M
+fewest_numbers_spec = tie.close (tie.spec returns returns-2 returns-3)

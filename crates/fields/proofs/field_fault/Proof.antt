@@ -1,8 +1,8 @@
--- `fields::field_fault` meets its contract: at each `return` a law of `fieldFault` takes the tests that led there.
+-- `fields::field_fault` meets its contract: at each `return` a law of `field_fault` takes the tests that led there.
 -- Assumes nothing.
 use mathlib.Core.Path.{sym, ◌∙◌}
 use borrow.Author.Tests.{not-true, not-false}
-use Rattle.papers.proofs.FieldTests.{fault-cut, fault-stray, fault-full, fault-misfit, fault-short, fault-none}
+use Rattle.papers.proofs.FieldTests.{fault_cut, fault_stray, fault_full, fault_misfit, fault_short, fault_none}
 use borrow.Author.Rules.{rules}
 use Rattle.fields.proofs.field_fault.Statement.{statement}
 use Rattle.fields.proofs.field_fault.Tie as tie
@@ -32,7 +32,7 @@ sub-left : tie.Need-overflow-sub-left
 sub-left c = search rules
 
 returns : tie.Need-returns
-returns c = let a = c.before.before.args in fault-cut _ _ a.place a.bytes.now c.if1.true
+returns c = let a = c.before.before.args in fault_cut _ _ a.place a.bytes.now c.if1.true
 
 shared-slice-read-if2 : tie.Need-shared-slice-read-if2
 shared-slice-read-if2 c = search rules
@@ -41,13 +41,13 @@ returns-2 : tie.Need-returns-2
 returns-2 c =
     let h = c.before.before in
     let a = (start h).args in
-    fault-stray _ _ a.place a.bytes.now h.if1.false c.if2.true
+    fault_stray _ _ a.place a.bytes.now h.if1.false c.if2.true
 
 returns-3 : tie.Need-returns-3
 returns-3 c =
     let h = heading c.before in
     let a = (start h).args in
-    fault-full _ _ a.place a.bytes.now h.if1.left c.before.if2.false c.if3.true
+    fault_full _ _ a.place a.bytes.now h.if1.left c.before.if2.false c.if3.true
 
 add-number-at : tie.Need-overflow-add-number-at
 add-number-at c = search rules
@@ -63,7 +63,7 @@ returns-4 c =
     let t = c.before in
     let h = heading (tagged t) in
     let a = (start h).args in
-    fault-misfit _ _ a.place a.bytes.now h.if1.left (tagged t).if2.false (free t).if3.false (sized t).number_at.ensures.0
+    fault_misfit _ _ a.place a.bytes.now h.if1.left (tagged t).if2.false (free t).if3.false (sized t).number_at.ensures.0
     (sym t.length-allowed.ensures ∙ not-true _ c.if4.true)
 
 returns-5 : tie.Need-returns-5
@@ -71,7 +71,7 @@ returns-5 c =
     let t = c.before.before in
     let h = heading (tagged t) in
     let a = (start h).args in
-    fault-short _ _ a.place a.bytes.now h.if1.left (tagged t).if2.false (free t).if3.false (sized t).number_at.ensures.0
+    fault_short _ _ a.place a.bytes.now h.if1.left (tagged t).if2.false (free t).if3.false (sized t).number_at.ensures.0
     (sym t.length-allowed.ensures ∙ not-false _ c.before.if4.false) c.if5.true
 
 returns-6 : tie.Need-returns-6
@@ -79,11 +79,11 @@ returns-6 c =
     let t = c.before.before in
     let h = heading (tagged t) in
     let a = (start h).args in
-    fault-none _ _ a.place a.bytes.now h.if1.left (tagged t).if2.false (free t).if3.false (sized t).number_at.ensures.0
+    fault_none _ _ a.place a.bytes.now h.if1.left (tagged t).if2.false (free t).if3.false (sized t).number_at.ensures.0
     (sym t.length-allowed.ensures ∙ not-false _ c.before.if4.false) c.if5.false
 
-pub field-fault-spec : {M : Type 1} → statement M
-field-fault-spec =
+pub field_fault_spec : {M : Type 1} → statement M
+field_fault_spec =
     tie.close
     (tie.spec
     sub-left

@@ -22,5 +22,5 @@ returns-4 : tie.Need-returns-4
 unfolding most
 returns-4 c = (rw (ne_eqb _ 2 c.before.before.if1.false, ne_eqb _ 4 c.before.if2.false, ne_eqb _ 127 c.if3.false), omega arith)
 
-pub most-numbers-spec : {M : Type 1} → statement M
-most-numbers-spec = tie.close (tie.spec returns returns-2 returns-3 returns-4)
+pub most_numbers_spec : {M : Type 1} → statement M
+most_numbers_spec = tie.close (tie.spec returns returns-2 returns-3 returns-4)

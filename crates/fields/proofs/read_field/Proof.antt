@@ -1,7 +1,7 @@
 -- `fields::read_field` meets its contract.
 -- Assumes nothing.
 use native.Mathlib.Omega.{arith}
-use Rattle.papers.proofs.FieldTests.{field-refused, field-heading, field-content}
+use Rattle.papers.proofs.FieldTests.{field_refused, field_heading, field_content}
 use borrow.Author.Rules.{rules}
 use Rattle.fields.proofs.read_field.Statement.{statement}
 use Rattle.fields.proofs.read_field.Tie as tie
@@ -16,7 +16,7 @@ returns : tie.Need-returns
 returns c =
     let tested = c.before in
     let a = (start tested).args in
-    field-refused _ _ _ a.place a.bytes.now tested.field-fault.ensures c.if1.true
+    field_refused _ _ _ a.place a.bytes.now tested.field-fault.ensures c.if1.true
 
 add_start : tie.Need-overflow-add-start
 add_start c = search rules
@@ -28,7 +28,7 @@ number-at-requires : tie.Need-number-at-requires
 number-at-requires c κs =
     let tested = c.before in
     let a = (start tested).args in
-    omega (arith, field-heading a.paper _ _ a.place a.bytes.now tested.field-fault.ensures c.if1.false)
+    omega (arith, field_heading a.paper _ _ a.place a.bytes.now tested.field-fault.ensures c.if1.false)
 
 add-t12 : tie.Need-overflow-add-t12
 add-t12 c = search rules
@@ -37,10 +37,10 @@ returns-2 : tie.Need-returns-2
 returns-2 c =
     let tested = c.before.before in
     let a = (start tested).args in
-    field-content _ _ _ a.place a.bytes.now tested.field-fault.ensures c.before.if1.false c.number_at.ensures.0
+    field_content _ _ _ a.place a.bytes.now tested.field-fault.ensures c.before.if1.false c.number_at.ensures.0
 
-pub read-field-spec : {M : Type 1} → statement M
-read-field-spec =
+pub read_field_spec : {M : Type 1} → statement M
+read_field_spec =
     tie.close
     (tie.spec
     field-fault-requires

@@ -1,8 +1,8 @@
 -- `finder_c::continued_words` meets its contract.
 -- Assumes nothing.
 use borrow.Author.Rules.{rules}
-use Rattle.papers.specs.Told.{bareTold, refusalTold}
-use Rattle.search.specs.Searching.{continuedTold}
+use Rattle.papers.specs.Told.{bare_told, refusal_told}
+use Rattle.search.specs.Searching.{continued_told}
 use Rattle.finder_c.proofs.continued_words.Statement.{statement}
 use Rattle.finder_c.proofs.continued_words.Tie as tie
 
@@ -37,23 +37,23 @@ refusal-words-requires : tie.Need-refusal-words-requires
 refusal-words-requires c κs = search rules
 
 returns : tie.Need-returns
-unfolding continuedTold bareTold refusalTold
+unfolding continued_told bare_told refusal_told
 returns c = rw c.before.before.continued.given.1 c.report-words.ensures
 
 returns-2 : tie.Need-returns-2
-unfolding continuedTold bareTold refusalTold
+unfolding continued_told bare_told refusal_told
 returns-2 c = rw c.before.enum_told.given.1 c.bare-words.ensures
 
 returns-3 : tie.Need-returns-3
-unfolding continuedTold bareTold refusalTold
+unfolding continued_told bare_told refusal_told
 returns-3 c = rw c.before.enum-told2.given.1 c.bare-words2.ensures
 
 returns-4 : tie.Need-returns-4
-unfolding continuedTold bareTold refusalTold
+unfolding continued_told bare_told refusal_told
 returns-4 c = rw c.before.before.continued2.given.1 c.refusal-words.ensures
 
-pub continued-words-spec : {M : Type 1} → statement M
-continued-words-spec =
+pub continued_words_spec : {M : Type 1} → statement M
+continued_words_spec =
     tie.close
     (tie.spec
     cast-position

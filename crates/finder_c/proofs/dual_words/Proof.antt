@@ -1,8 +1,8 @@
 -- `finder_c::dual_words` meets its contract.
 -- Assumes nothing.
 use borrow.Author.Rules.{rules}
-use Rattle.papers.specs.Told.{bareTold, refusalTold}
-use Rattle.dual_writer.specs.WrittenDual.{writtenTold}
+use Rattle.papers.specs.Told.{bare_told, refusal_told}
+use Rattle.dual_writer.specs.WrittenDual.{written_told}
 use Rattle.finder_c.proofs.dual_words.Statement.{statement}
 use Rattle.finder_c.proofs.dual_words.Tie as tie
 
@@ -22,19 +22,19 @@ refusal-words-requires : tie.Need-refusal-words-requires
 refusal-words-requires c κs = search rules
 
 returns : tie.Need-returns
-unfolding writtenTold bareTold refusalTold
+unfolding written_told bare_told refusal_told
 returns c = rw c.before.written.given.1
 
 returns-2 : tie.Need-returns-2
-unfolding writtenTold bareTold refusalTold
+unfolding written_told bare_told refusal_told
 returns-2 c = rw c.before.enum_told.given.1 c.bare-words.ensures
 
 returns-3 : tie.Need-returns-3
-unfolding writtenTold bareTold refusalTold
+unfolding written_told bare_told refusal_told
 returns-3 c = rw c.before.before.written2.given.1 c.refusal-words.ensures
 
-pub dual-words-spec : {M : Type 1} → statement M
-dual-words-spec =
+pub dual_words_spec : {M : Type 1} → statement M
+dual_words_spec =
     tie.close
     (tie.spec
     enum-known-written

@@ -2,7 +2,7 @@
 -- Assumes nothing.
 use borrow.Author.Rules.{rules}
 use mathlib.Core.Path.{ap, ◌∙◌}
-use Rattle.finder_c.specs.AnswerWords.{recordOf, continuedWords}
+use Rattle.finder_c.specs.AnswerWords.{record_of, continued_words}
 use Rattle.finder_c.proofs.finder_continue.Statement.{statement}
 use Rattle.finder_c.proofs.finder_continue.Tie as tie
 
@@ -23,9 +23,9 @@ returns c =
     let called = c.before.before.before.before.before in
     let a = called.before.before.before.before.before.before.before.args in
     let told = called.continue-search.ensures in
-    (c.continued-words.ensures ∙ ap (continuedWords (recordOf a.position a.found a.assumed a.ruled)) told.0, told.1)
+    (c.continued-words.ensures ∙ ap (continued_words (record_of a.position a.found a.assumed a.ruled)) told.0, told.1)
 
-pub finder-continue-spec : {M : Type 1} → statement M
-finder-continue-spec =
+pub finder_continue_spec : {M : Type 1} → statement M
+finder_continue_spec =
     tie.close
     (tie.spec continue-search-requires continued-words-requires same_length same-length-2 returns)

@@ -1,7 +1,7 @@
 -- `finder_c::finder_import` meets its contract.
 -- Assumes nothing.
 use mathlib.Core.Path.{ap, ◌∙◌}
-use Rattle.finder_c.specs.AnswerWords.{importWords}
+use Rattle.finder_c.specs.AnswerWords.{import_words}
 use borrow.Author.Rules.{rules}
 use Rattle.finder_c.proofs.finder_import.Statement.{statement}
 use Rattle.finder_c.proofs.finder_import.Tie as tie
@@ -16,8 +16,8 @@ same_length : tie.Need-same-length
 same_length c = search rules
 
 returns : tie.Need-returns
-returns c = (c.import-words.ensures ∙ ap importWords c.before.before.before.import-text.ensures.0, c.before.before.before.import-text.ensures.1)
+returns c = (c.import-words.ensures ∙ ap import_words c.before.before.before.import-text.ensures.0, c.before.before.before.import-text.ensures.1)
 
-pub finder-import-spec : {M : Type 1} → statement M
-finder-import-spec =
+pub finder_import_spec : {M : Type 1} → statement M
+finder_import_spec =
     tie.close (tie.spec import-text-requires import-words-requires same_length returns)

@@ -2,7 +2,7 @@
 -- Assumes nothing.
 use borrow.Author.Rules.{rules}
 use mathlib.Core.Path.{ap, ◌∙◌}
-use Rattle.finder_c.specs.AnswerWords.{judgedWords}
+use Rattle.finder_c.specs.AnswerWords.{judged_words}
 use Rattle.finder_c.proofs.finder_judge.Statement.{statement}
 use Rattle.finder_c.proofs.finder_judge.Tie as tie
 
@@ -21,8 +21,8 @@ same-length-2 c = search rules
 returns : tie.Need-returns
 returns c =
     let told = c.before.before.before.before.before.judge.ensures in
-    (c.judged-words.ensures ∙ ap judgedWords told.0, told.1)
+    (c.judged-words.ensures ∙ ap judged_words told.0, told.1)
 
-pub finder-judge-spec : {M : Type 1} → statement M
-finder-judge-spec =
+pub finder_judge_spec : {M : Type 1} → statement M
+finder_judge_spec =
     tie.close (tie.spec judge-requires judged-words-requires same_length same-length-2 returns)

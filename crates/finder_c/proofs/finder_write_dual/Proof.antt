@@ -1,7 +1,7 @@
 -- `finder_c::finder_write_dual` meets its contract.
 -- Assumes nothing.
 use mathlib.Core.Path.{ap, ◌∙◌}
-use Rattle.finder_c.specs.AnswerWords.{dualWords}
+use Rattle.finder_c.specs.AnswerWords.{dual_words}
 use borrow.Author.Rules.{rules}
 use Rattle.finder_c.proofs.finder_write_dual.Statement.{statement}
 use Rattle.finder_c.proofs.finder_write_dual.Tie as tie
@@ -16,8 +16,8 @@ same_length : tie.Need-same-length
 same_length c = search rules
 
 returns : tie.Need-returns
-returns c = (c.dual-words.ensures ∙ ap dualWords c.before.before.before.write-dual.ensures.0, c.before.before.before.write-dual.ensures.1)
+returns c = (c.dual-words.ensures ∙ ap dual_words c.before.before.before.write-dual.ensures.0, c.before.before.before.write-dual.ensures.1)
 
-pub finder-write-dual-spec : {M : Type 1} → statement M
-finder-write-dual-spec =
+pub finder_write_dual_spec : {M : Type 1} → statement M
+finder_write_dual_spec =
     tie.close (tie.spec write-dual-requires dual-words-requires same_length returns)

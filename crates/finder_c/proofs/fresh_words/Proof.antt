@@ -1,8 +1,8 @@
 -- `finder_c::fresh_words` meets its contract.
 -- Assumes nothing.
 use borrow.Author.Rules.{rules}
-use Rattle.papers.specs.Told.{bareTold, refusalTold}
-use Rattle.fresh.specs.Beginning.{begunTold}
+use Rattle.papers.specs.Told.{bare_told, refusal_told}
+use Rattle.fresh.specs.Beginning.{begun_told}
 use Rattle.finder_c.proofs.fresh_words.Statement.{statement}
 use Rattle.finder_c.proofs.fresh_words.Tie as tie
 
@@ -31,23 +31,23 @@ refusal-words-requires : tie.Need-refusal-words-requires
 refusal-words-requires c κs = search rules
 
 returns : tie.Need-returns
-unfolding begunTold bareTold refusalTold
+unfolding begun_told bare_told refusal_told
 returns c = rw c.before.before.answer.given.1 c.record-words.ensures
 
 returns-2 : tie.Need-returns-2
-unfolding begunTold bareTold refusalTold
+unfolding begun_told bare_told refusal_told
 returns-2 c = rw c.before.enum_told.given.1 c.bare-words.ensures
 
 returns-3 : tie.Need-returns-3
-unfolding begunTold bareTold refusalTold
+unfolding begun_told bare_told refusal_told
 returns-3 c = rw c.before.enum-told2.given.1 c.bare-words2.ensures
 
 returns-4 : tie.Need-returns-4
-unfolding begunTold bareTold refusalTold
+unfolding begun_told bare_told refusal_told
 returns-4 c = rw c.before.before.answer2.given.1 c.refusal-words.ensures
 
-pub fresh-words-spec : {M : Type 1} → statement M
-fresh-words-spec =
+pub fresh_words_spec : {M : Type 1} → statement M
+fresh_words_spec =
     tie.close
     (tie.spec
     enum-known-answer

@@ -1,8 +1,8 @@
 -- `finder_c::judged_words` meets its contract.
 -- Assumes nothing.
 use borrow.Author.Rules.{rules}
-use Rattle.papers.specs.Told.{bareTold, refusalTold}
-use Rattle.judging.specs.Judging.{judgedTold}
+use Rattle.papers.specs.Told.{bare_told, refusal_told}
+use Rattle.judging.specs.Judging.{judged_told}
 use Rattle.finder_c.proofs.judged_words.Statement.{statement}
 use Rattle.finder_c.proofs.judged_words.Tie as tie
 
@@ -37,27 +37,27 @@ refusal-words-requires : tie.Need-refusal-words-requires
 refusal-words-requires c κs = search rules
 
 returns : tie.Need-returns
-unfolding judgedTold bareTold refusalTold
+unfolding judged_told bare_told refusal_told
 returns c = rw (c.before.before.judged.given.1, c.flag-number.ensures)
 
 returns-2 : tie.Need-returns-2
-unfolding judgedTold bareTold refusalTold
+unfolding judged_told bare_told refusal_told
 returns-2 c = rw c.before.enum_told.given.1 c.bare-words.ensures
 
 returns-3 : tie.Need-returns-3
-unfolding judgedTold bareTold refusalTold
+unfolding judged_told bare_told refusal_told
 returns-3 c = rw c.before.enum-told2.given.1 c.bare-words2.ensures
 
 returns-4 : tie.Need-returns-4
-unfolding judgedTold bareTold refusalTold
+unfolding judged_told bare_told refusal_told
 returns-4 c = rw c.before.enum-told3.given.1 c.bare-words3.ensures
 
 returns-5 : tie.Need-returns-5
-unfolding judgedTold bareTold refusalTold
+unfolding judged_told bare_told refusal_told
 returns-5 c = rw c.before.before.judged2.given.1 c.refusal-words.ensures
 
-pub judged-words-spec : {M : Type 1} → statement M
-judged-words-spec =
+pub judged_words_spec : {M : Type 1} → statement M
+judged_words_spec =
     tie.close
     (tie.spec
     enum-known-judged

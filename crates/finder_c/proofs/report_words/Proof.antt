@@ -19,5 +19,5 @@ state-number-requires c κs = search rules
 returns : tie.Need-returns
 returns c = rw c.state-number.ensures
 
-pub report-words-spec : {M : Type 1} → statement M
-report-words-spec = tie.close (tie.spec cast-t4 cast-t5 cast-t6 state-number-requires returns)
+pub report_words_spec : {M : Type 1} → statement M
+report_words_spec = tie.close (tie.spec cast-t4 cast-t5 cast-t6 state-number-requires returns)

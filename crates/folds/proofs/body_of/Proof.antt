@@ -4,10 +4,10 @@ use mathlib.Core.List.{List}
 use Prim.Native.Nat.{ℕ, ◌+◌, ◌-◌, ◌≤◌, ◌<◌}
 use native.Mathlib.Omega.{arith}
 use lib.ListN.{length, get_or, take, drop}
-use Rattle.papers.specs.Program.{ruleAt}
-use Rattle.papers.specs.Reading.{programIn}
+use Rattle.papers.specs.Program.{rule_at}
+use Rattle.papers.specs.Reading.{program_in}
 use Rattle.papers.specs.Places.{BodyOf}
-use Rattle.papers.proofs.FoldsWalked.{fold-few, place-heading, body-there, body-headed, body-bare}
+use Rattle.papers.proofs.FoldsWalked.{fold_few, place_heading, body_there, body_headed, body_bare}
 use borrow.Author.Rules.{rules}
 use Rattle.folds.proofs.body_of.Statement.{statement}
 use Rattle.folds.proofs.body_of.Tie as tie
@@ -28,11 +28,11 @@ module _ (c : tie.After-shared-slice-known) where
   place = get_or start.args.places.now fold 0
 
   few : fold < 1280
-  few = fold-few file start.args.contents start.args.places.now start.pre.0 (λ k. (c.shared-slice-known.given k).fits) fold start.pre.1
+  few = fold_few file start.args.contents start.args.places.now start.pre.0 (λ k. (c.shared-slice-known.given k).fits) fold start.pre.1
 
   heading : place + 2 < length file
   heading =
-      place-heading file start.args.contents start.args.places.now start.pre.0 (λ k. (c.shared-slice-known.given k).fits) fold start.pre.1
+      place_heading file start.args.contents start.args.places.now start.pre.0 (λ k. (c.shared-slice-known.given k).fits) fold start.pre.1
 
 -- ---- where the field's end is known
 
@@ -50,20 +50,20 @@ module _ (c : tie.After-field-end) where
   abbrev Between : ℕ → Type 0
   Between from =
       (from ≤ end)
-      × ((end ≤ length (file known)) × BodyOf (ruleAt (programIn (file known)) (fold known)) (take (end - from) (drop from (file known))))
+      × ((end ≤ length (file known)) × BodyOf (rule_at (program_in (file known)) (fold known)) (take (end - from) (drop from (file known))))
 
-  after-head : fold known < s.args.contents.rules.count → Between (place known + 5)
-  after-head h =
-      body-there (file known) s.args.contents s.args.places.now s.pre.0 (λ k. (known.shared-slice-known.given k).fits) (fold known) s.pre.1
+  after_head : fold known < s.args.contents.rules.count → Between (place known + 5)
+  after_head h =
+      body_there (file known) s.args.contents s.args.places.now s.pre.0 (λ k. (known.shared-slice-known.given k).fits) (fold known) s.pre.1
       (place known + 5) end c.field-end.ensures
-      (body-headed (file known) s.args.contents s.args.places.now s.pre.0 (λ k. (known.shared-slice-known.given k).fits) (fold known)
+      (body_headed (file known) s.args.contents s.args.places.now s.pre.0 (λ k. (known.shared-slice-known.given k).fits) (fold known)
       s.pre.1 h)
 
-  after-heading : s.args.contents.rules.count ≤ fold known → Between (place known + 3)
-  after-heading h =
-      body-there (file known) s.args.contents s.args.places.now s.pre.0 (λ k. (known.shared-slice-known.given k).fits) (fold known) s.pre.1
+  after_heading : s.args.contents.rules.count ≤ fold known → Between (place known + 3)
+  after_heading h =
+      body_there (file known) s.args.contents s.args.places.now s.pre.0 (λ k. (known.shared-slice-known.given k).fits) (fold known) s.pre.1
       (place known + 3) end c.field-end.ensures
-      (body-bare (file known) s.args.contents s.args.places.now s.pre.0 (λ k. (known.shared-slice-known.given k).fits) (fold known)
+      (body_bare (file known) s.args.contents s.args.places.now s.pre.0 (λ k. (known.shared-slice-known.given k).fits) (fold known)
       s.pre.1 h)
 
 mul-place : tie.Need-overflow-mul-place
@@ -76,16 +76,16 @@ field-end-requires : tie.Need-field-end-requires
 field-end-requires c κs = heading c.before.before
 
 add_start : tie.Need-overflow-add-start
-add_start c = let r = after-head c.before.before c.if1.true in omega arith
+add_start c = let r = after_head c.before.before c.if1.true in omega arith
 
 sub-result : tie.Need-overflow-sub-result
-sub-result c = let r = after-head c.before.before c.if1.true in omega arith
+sub-result c = let r = after_head c.before.before c.if1.true in omega arith
 
 part-result-start : tie.Need-slice-bounds-result-start
-part-result-start c = let r = after-head c.before.before c.if1.true in omega arith
+part-result-start c = let r = after_head c.before.before c.if1.true in omega arith
 
 part-result-end : tie.Need-slice-bounds-result-end
-part-result-end c = (after-head c.before.before c.if1.true).1.0
+part-result-end c = (after_head c.before.before c.if1.true).1.0
 
 add-start-2 : tie.Need-overflow-add-start-2
 add-start-2 c = search rules
@@ -97,16 +97,16 @@ part-result-start-2 : tie.Need-slice-bounds-result-start-2
 part-result-start-2 c = search rules
 
 part-result-end-2 : tie.Need-slice-bounds-result-end-2
-part-result-end-2 c = (after-heading c.before.before c.if1.false).1.0
+part-result-end-2 c = (after_heading c.before.before c.if1.false).1.0
 
 returns : tie.Need-returns
-returns c = (after-head c.before.before.before c.before.if1.true).1.1
+returns c = (after_head c.before.before.before c.before.if1.true).1.1
 
 returns-2 : tie.Need-returns-2
-returns-2 c = (after-heading c.before.before.before c.before.if1.false).1.1
+returns-2 c = (after_heading c.before.before.before c.before.if1.false).1.1
 
-pub body-of-spec : {M : Type 1} → statement M
-body-of-spec =
+pub body_of_spec : {M : Type 1} → statement M
+body_of_spec =
     tie.close
     (tie.spec
     mul-place

@@ -2,24 +2,24 @@
 -- Assumes nothing.
 use lib.ListN.{length, get_or, length-set, length-replicate}
 use lib.Seq.{get_or-set_other}
-use Rattle.papers.proofs.Lists.{set_more, getD-zeros}
+use Rattle.papers.proofs.Lists.{set_more, get_or_zeros}
 use mathlib.Core.Path.{◌≡◌, ◌∙◌}
 use Prim.Native.Nat.{ℕ, ◌+◌, ◌-◌, ◌≤◌, ◌<◌}
 use native.Mathlib.Omega.{arith}
-use Rattle.papers.specs.Program.{Program, allRules}
-use Rattle.papers.specs.Reading.{programIn}
-use Rattle.papers.specs.Places.{foldPlace}
-use Rattle.papers.proofs.RuleLaws.{rules-count}
-use Rattle.papers.proofs.FoldsWalked.{folds-counted, few-folds, first-place, fold-heading, next_place}
+use Rattle.papers.specs.Program.{Program, all_rules}
+use Rattle.papers.specs.Reading.{program_in}
+use Rattle.papers.specs.Places.{fold_place}
+use Rattle.papers.proofs.RuleLaws.{rules_count}
+use Rattle.papers.proofs.FoldsWalked.{folds_counted, few_folds, first_place, fold_heading, next_place}
 use Rattle.folds.proofs.fold_places.Statement.{statement}
 use Rattle.folds.proofs.fold_places.Tie as tie
 
 abbrev invariant-loop : tie.invariant-loop
 invariant-loop file count places₀ place₀ i₀ places place i =
     (i ≤ count)
-    × ((place ≡ foldPlace (programIn file) i)
+    × ((place ≡ fold_place (program_in file) i)
     × ((length places ≡ 1280)
-    × (((j : ℕ) → j < i → get_or places j 0 ≡ foldPlace (programIn file) j) × ((j : ℕ) → i ≤ j → get_or places j 0 ≡ 0))))
+    × (((j : ℕ) → j < i → get_or places j 0 ≡ fold_place (program_in file) j) × ((j : ℕ) → i ≤ j → get_or places j 0 ≡ 0))))
 
 abbrev decreases-loop : tie.decreases-loop
 decreases-loop file count places₀ place₀ i₀ places place i = count - i
@@ -28,10 +28,10 @@ decreases-loop file count places₀ place₀ i₀ places place i = count - i
 
 module _ (c : tie.Start invariant-loop decreases-loop) where
   abbrev program : Program
-  program = programIn c.args.file.now
+  program = program_in c.args.file.now
 
   few : c.args.contents.rules.count + c.args.contents.integrity.count ≤ 1280
-  few = few-folds c.args.file.now c.args.contents c.requires
+  few = few_folds c.args.file.now c.args.contents c.requires
 
 -- ---- at the loop's head
 
@@ -50,8 +50,8 @@ loop-holds c =
     let s = c.before.before.before.before.before in (
       omega arith,
       (
-        first-place s.args.file.now s.args.contents s.requires,
-        (length-replicate {A = ℕ} 1280 0, (λ j h. absurd (omega arith), λ j h. getD-zeros 1280 j)),
+        first_place s.args.file.now s.args.contents s.requires,
+        (length-replicate {A = ℕ} 1280 0, (λ j h. absurd (omega arith), λ j h. get_or_zeros 1280 j)),
       ),
     )
 
@@ -67,7 +67,7 @@ field-end-requires c κs =
     let s = start head in
     omega (
       arith,
-      fold-heading s.args.file.now s.args.contents s.pre (λ k. ((known head).shared-slice-known.given k).fits) head.loop.i
+      fold_heading s.args.file.now s.args.contents s.pre (λ k. ((known head).shared-slice-known.given k).fits) head.loop.i
           c.loop-test.true,
     )
 
@@ -90,7 +90,7 @@ loop-again c =
         (
           simp length-set at.invariant.1.1.0,
           (
-            set_more at.places at.i at.place (foldPlace (program s)) (omega (arith, few s)) at.invariant.1.0 at.invariant.1.1.1.0,
+            set_more at.places at.i at.place (fold_place (program s)) (omega (arith, few s)) at.invariant.1.0 at.invariant.1.1.1.0,
             λ j h. get_or-set_other at.places at.i j at.place 0 (λ e. omega arith) ∙ at.invariant.1.1.1.1 j (omega arith),
           ),
         ),
@@ -103,8 +103,8 @@ module _ (c : tie.After-loop invariant-loop decreases-loop) where
   abbrev begun : tie.Start invariant-loop decreases-loop
   begun = start c.before
 
-  all : c.before.loop.i ≡ length (allRules (program begun))
-  all = omega (arith, rules-count (program begun), folds-counted begun.args.file.now begun.args.contents begun.pre)
+  all : c.before.loop.i ≡ length (all_rules (program begun))
+  all = omega (arith, rules_count (program begun), folds_counted begun.args.file.now begun.args.contents begun.pre)
 
 returns : tie.Need-returns invariant-loop decreases-loop
 returns c = record {
@@ -113,8 +113,8 @@ returns c = record {
   beyond = λ i h. c.before.loop.invariant.1.1.1.1 i (omega (arith, all c));
 }
 
-pub fold-places-spec : {M : Type 1} → statement M
-fold-places-spec =
+pub fold_places_spec : {M : Type 1} → statement M
+fold_places_spec =
     tie.close
     (tie.spec
     invariant-loop

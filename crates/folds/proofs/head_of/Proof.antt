@@ -3,7 +3,7 @@
 use Prim.Native.Nat.{ℕ, ◌+◌, ◌<◌}
 use native.Mathlib.Omega.{arith}
 use lib.ListN.{length, get_or}
-use Rattle.papers.proofs.FoldsWalked.{fold-few, headed, head-there, head-falsum}
+use Rattle.papers.proofs.FoldsWalked.{fold_few, headed, head_there, head_falsum}
 use borrow.Author.Rules.{rules}
 use Rattle.folds.proofs.head_of.Statement.{statement}
 use Rattle.folds.proofs.head_of.Tie as tie
@@ -22,7 +22,7 @@ module _ (c : tie.After-struct-known) where
 
   few : fold < 1280
   few =
-      fold-few start.args.file.now start.args.contents start.args.places.now start.pre.0
+      fold_few start.args.file.now start.args.contents start.args.places.now start.pre.0
       (λ k. (known.shared-slice-known.given k).fits) fold start.pre.1
 
   there : fold < start.args.contents.rules.count → get_or start.args.places.now fold 0 + 4 < length start.args.file.now
@@ -49,7 +49,7 @@ returns : tie.Need-returns
 returns c =
     let at = c.before.before.before in
     let s = start at in
-    head-there s.args.file.now s.args.contents s.args.places.now s.pre.0 (λ k. ((known at).shared-slice-known.given k).fits) (fold at)
+    head_there s.args.file.now s.args.contents s.args.places.now s.pre.0 (λ k. ((known at).shared-slice-known.given k).fits) (fold at)
     s.pre.1 c.before.before.if1.true c.objective-at.ensures.0
 
 returns-2 : tie.Need-returns-2
@@ -57,11 +57,11 @@ returns-2 c =
     let at = c.before.before in
     let s = start at in
     rw c.falsum.ensures
-    (head-falsum s.args.file.now s.args.contents s.args.places.now s.pre.0 (λ k. ((known at).shared-slice-known.given k).fits) (fold at)
+    (head_falsum s.args.file.now s.args.contents s.args.places.now s.pre.0 (λ k. ((known at).shared-slice-known.given k).fits) (fold at)
     s.pre.1 c.before.if1.false)
 
-pub head-of-spec : {M : Type 1} → statement M
-head-of-spec =
+pub head_of_spec : {M : Type 1} → statement M
+head_of_spec =
     tie.close
     (tie.spec
     mul-objective-at

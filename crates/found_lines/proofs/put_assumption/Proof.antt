@@ -7,7 +7,7 @@ use Rattle.decimals.specs.Decimal.{decimal}
 use Rattle.decimals.specs.Text.{written}
 use Rattle.found_lines.specs.FoundLine.{sign}
 use Rattle.decimals.proofs.Putting.{put_two}
-use Rattle.found_lines.proofs.Items.{item-open, item-signed}
+use Rattle.found_lines.proofs.Items.{item_open, item_signed}
 use borrow.Author.Rules.{rules}
 use Rattle.found_lines.proofs.put_assumption.Statement.{statement}
 use Rattle.found_lines.proofs.put_assumption.Tie as tie
@@ -16,7 +16,7 @@ returns : tie.Need-returns
 unfolding written
 returns c =
     let a = c.before.before.args in
-    rw (item-open a.atom.0 a.digit c.if1.true) (record { place = omega arith; bytes = refl }, omega arith)
+    rw (item_open a.atom.0 a.digit c.if1.true) (record { place = omega arith; bytes = refl }, omega arith)
 
 -- ---- once the atom's number is put
 
@@ -52,11 +52,11 @@ returns-2 c =
     let a = (start numbered).args in
     let signed = rw c.before.before.before.sign.ensures at put.ensures in
     let p = put_two (32 ∷ decimal a.atom.0) (sign a.digit ∷ []) numbered.put-number.ensures.0 signed in
-    rw (item-signed a.atom.0 a.digit (given numbered).if1.false)
+    rw (item_signed a.atom.0 a.digit (given numbered).if1.false)
     (p, let x = numbered.put-number.ensures.1 in let y = put.ensures.place in omega arith)
 
-pub put-assumption-spec : {M : Type 1} → statement M
-put-assumption-spec =
+pub put_assumption_spec : {M : Type 1} → statement M
+put_assumption_spec =
     tie.close
     (tie.spec
     returns

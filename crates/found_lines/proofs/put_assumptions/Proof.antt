@@ -8,8 +8,8 @@ use lib.ListN.{length, drop}
 use Rattle.papers.specs.Field.{numbers}
 use Rattle.decimals.specs.Text.{spaced}
 use Rattle.found_lines.specs.FoundLine.{assumption, assumptions}
-use Rattle.decimals.proofs.Putting.{Left, left-all, left_after, left-none}
-use Rattle.found_lines.proofs.Items.{items-none, items-next}
+use Rattle.decimals.proofs.Putting.{Left, left_all, left_after, left_none}
+use Rattle.found_lines.proofs.Items.{items_none, items_next}
 use Rattle.found_lines.proofs.put_assumptions.Statement.{statement}
 use Rattle.found_lines.proofs.put_assumptions.Tie as tie
 
@@ -24,7 +24,7 @@ decreases-loop buffer₀ at scenario abducibles count end₀ rest₀ i₀ buffer
 loop-holds : tie.Need-loop-init invariant-loop decreases-loop
 loop-holds c =
     let a = c.before.before.args in
-    (left-all a.at (spaced (assumptions (numbers a.abducibles.now) a.scenario)) a.buffer.now, (omega arith, (omega arith, refl)))
+    (left_all a.at (spaced (assumptions (numbers a.abducibles.now) a.scenario)) a.buffer.now, (omega arith, (omega arith, refl)))
 
 mul-atom-at : tie.Need-overflow-mul-atom-at invariant-loop decreases-loop
 mul-atom-at c = search rules
@@ -48,7 +48,7 @@ loop-again c =
     let put = c.before.before.put-assumption in
     let atom = c.before.before.before.atom-at in
     let turn = c.before.before.before.before.before in
-    let next = items-next a.abducibles.now l.i l.rest atom.result.0 turn.loop-test.true atom.ensures in
+    let next = items_next a.abducibles.now l.i l.rest atom.result.0 turn.loop-test.true atom.ensures in
     let more = spaced (assumptions (numbers (drop (2 * (l.i + 1)) a.abducibles.now)) (l.rest / 3)) in (
       left_after (spaced (assumption atom.result.0 (l.rest % 3))) more put.ensures.0 (rw next at l.invariant.0),
       (omega arith, (let p = put.ensures.1 in omega arith, put.auto.0 ∙ l.invariant.1.1.1)),
@@ -61,10 +61,10 @@ returns : tie.Need-returns invariant-loop decreases-loop
 returns c =
     let a = c.before.before.before.before.args in
     let l = c.before.loop in
-    (left-none (rw (items-none a.abducibles.now l.i l.rest c.loop-test.false) at l.invariant.0), omega arith)
+    (left_none (rw (items_none a.abducibles.now l.i l.rest c.loop-test.false) at l.invariant.0), omega arith)
 
-pub put-assumptions-spec : {M : Type 1} → statement M
-put-assumptions-spec =
+pub put_assumptions_spec : {M : Type 1} → statement M
+put_assumptions_spec =
     tie.close
     (tie.spec
     invariant-loop

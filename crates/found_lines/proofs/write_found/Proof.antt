@@ -3,8 +3,8 @@
 use native.Mathlib.Omega.{arith}
 use Rattle.papers.specs.Field.{numbers}
 use Rattle.decimals.specs.Decimal.{decimal}
-use Rattle.found_lines.specs.FoundLine.{foundLine, foundWord, assumptions}
-use Rattle.decimals.proofs.Putting.{put-line}
+use Rattle.found_lines.specs.FoundLine.{found_line, found_word, assumptions}
+use Rattle.decimals.proofs.Putting.{put_line}
 use borrow.Author.Rules.{rules}
 use Rattle.found_lines.proofs.write_found.Statement.{statement}
 use Rattle.found_lines.proofs.write_found.Tie as tie
@@ -25,18 +25,18 @@ same_length : tie.Need-same-length
 same_length c = search rules
 
 returns : tie.Need-returns
-unfolding foundLine
+unfolding found_line
 returns c =
     let ended = c.before.before in
     let items = ended.before.before.before.before in
     let numbered = items.before.before.before.before in
     let a = numbered.before.before.before.before.before.args in
     let assumed = assumptions (numbers a.abducibles.now) a.scenario in
-    let put = put-line foundWord (decimal a.scenario) assumed in
+    let put = put_line found_word (decimal a.scenario) assumed in
     (put numbered.put-number.ensures.0 items.put-assumptions.ensures.0 ended.put_byte.ensures, omega arith)
 
-pub write-found-spec : {M : Type 1} → statement M
-write-found-spec =
+pub write_found_spec : {M : Type 1} → statement M
+write_found_spec =
     tie.close
     (tie.spec
     slice-aggregate-put-number

@@ -1,7 +1,7 @@
 -- `fresh::begun` meets its contract.
 -- Assumes nothing.
 use borrow.Author.Rules.{rules}
-use Rattle.fresh.specs.Beginning.{begunTold, masksTold}
+use Rattle.fresh.specs.Beginning.{begun_told, masks_told}
 use Rattle.fresh.proofs.begun.Statement.{statement}
 use Rattle.fresh.proofs.begun.Tie as tie
 
@@ -15,16 +15,16 @@ enum-told-3 : tie.Need-enum-told-3
 enum-told-3 c = search rules
 
 returns : tie.Need-returns
-unfolding begunTold masksTold
+unfolding begun_told masks_told
 returns c = rw c.enum_told.given.1
 
 returns-2 : tie.Need-returns-2
-unfolding begunTold masksTold
+unfolding begun_told masks_told
 returns-2 c = rw c.enum-told2.given.1
 
 returns-3 : tie.Need-returns-3
-unfolding begunTold masksTold
+unfolding begun_told masks_told
 returns-3 c = rw c.enum-told3.given.1
 
-pub begun-spec : {M : Type 1} → statement M
-begun-spec = tie.close (tie.spec enum_told enum-told-2 enum-told-3 returns returns-2 returns-3)
+pub begun_spec : {M : Type 1} → statement M
+begun_spec = tie.close (tie.spec enum_told enum-told-2 enum-told-3 returns returns-2 returns-3)

@@ -7,12 +7,12 @@ use native.Mathlib.Omega.{arith}
 use borrow.Author.Rules.{rules}
 use lib.ListN.{length}
 use Rattle.papers.specs.declared.FileRead.TheVariants.{Accepted}
-use Rattle.papers.specs.Reading.{readFile, programIn}
-use Rattle.papers.specs.Answers.{fileAnswer}
-use Rattle.papers.proofs.FileFacts.{told, abducibles-are, program-valid}
-use Rattle.papers.proofs.ReadersGot.{file-refused}
-use Rattle.papers.proofs.ToldLaws.{file-told}
-use Rattle.fresh.specs.Beginning.{begunTold, freshTold}
+use Rattle.papers.specs.Reading.{read_file, program_in}
+use Rattle.papers.specs.Answers.{file_answer}
+use Rattle.papers.proofs.FileFacts.{told, abducibles_are, program_valid}
+use Rattle.papers.proofs.ReadersGot.{file_refused}
+use Rattle.papers.proofs.ToldLaws.{file_told_lem}
+use Rattle.fresh.specs.Beginning.{begun_told, fresh_told}
 use Rattle.fresh.proofs.fresh.Statement.{statement}
 use Rattle.fresh.proofs.fresh.Tie as tie
 
@@ -35,39 +35,39 @@ returns : tie.Need-returns
 returns c = search rules
 
 returns-2 : tie.Need-returns-2
-unfolding begunTold freshTold
+unfolding begun_told fresh_told
 returns-2 c =
     let other = c.before.before.before.before in
     let read = other.before.before in
     let file = read.before.before.args.file in
-    rw (file-refused (readFile file.now) (file-told _ read.read-file.ensures) (other.read2.given.1 ∙ c.before.read3.given.1))
+    rw (file_refused (read_file file.now) (file_told_lem _ read.read-file.ensures) (other.read2.given.1 ∙ c.before.read3.given.1))
 
 -- The file is accepted.
 module _ (c : tie.After-known-told) where
   abbrev file : List ℕ
   file = c.before.before.before.before.before.args.file.now
 
-  answer : fileAnswer (readFile file) ≡ Accepted c.before.read.given.0.0
-  answer = sym (file-told _ c.before.before.before.read-file.ensures) ∙ c.before.read.given.1
+  answer : file_answer (read_file file) ≡ Accepted c.before.read.given.0.0
+  answer = sym (file_told_lem _ c.before.before.before.read-file.ensures) ∙ c.before.read.given.1
 
-  abducibles : length (programIn file).abducibles ≡ c.before.read.given.0.0.abducibles
-  abducibles = abducibles-are file _ answer
+  abducibles : length (program_in file).abducibles ≡ c.before.read.given.0.0.abducibles
+  abducibles = abducibles_are file _ answer
 
 test-masks-requires : tie.Need-test-masks-requires
-test-masks-requires c κs = omega (arith, abducibles c, (program-valid (file c) _ (answer c)).fewAbducibles)
+test-masks-requires c κs = omega (arith, abducibles c, (program_valid (file c) _ (answer c)).few_abducibles)
 
 begun-requires : tie.Need-begun-requires
 begun-requires c κs = search rules
 
 returns-3 : tie.Need-returns-3
-unfolding freshTold
+unfolding fresh_told
 returns-3 c =
     let known = c.before.before in
     let tested = c.before.test-masks.ensures in
     c.begun.ensures ∙ rw ((told (file known) _ (answer known)).is, abducibles known, tested)
 
-pub fresh-spec : {M : Type 1} → statement M
-fresh-spec =
+pub fresh_spec : {M : Type 1} → statement M
+fresh_spec =
     tie.close
     (tie.spec
     read-file-requires

@@ -26,5 +26,5 @@ returns-3 : tie.Need-returns-3
 unfolding unfit
 returns-3 c = rw c.enum-told3.given.1
 
-pub is-unfit-spec : {M : Type 1} → statement M
-is-unfit-spec = tie.close (tie.spec enum_told enum-told-2 enum-told-3 returns returns-2 returns-3)
+pub is_unfit_spec : {M : Type 1} → statement M
+is_unfit_spec = tie.close (tie.spec enum_told enum-told-2 enum-told-3 returns returns-2 returns-3)

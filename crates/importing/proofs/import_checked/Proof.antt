@@ -1,14 +1,14 @@
 -- `importing::import_checked` meets its contract.
 -- Assumes nothing.
 use native.Mathlib.Omega.{arith}
-use Rattle.importing.proofs.ImportLaws.{file-short, file-written}
+use Rattle.importing.proofs.ImportLaws.{file_short, file_written}
 use Rattle.importing.proofs.import_checked.Statement.{statement}
 use Rattle.importing.proofs.import_checked.Tie as tie
 
 returns : tie.Need-returns
 returns c =
     let s = c.before.before.before in
-    file-short s.args.text.now s.args.file.now s.requires.0 s.requires.1.1.1 c.if1.true
+    file_short s.args.text.now s.args.file.now s.requires.0 s.requires.1.1.1 c.if1.true
 
 write-file-requires : tie.Need-write-file-requires
 write-file-requires c κs =
@@ -22,8 +22,8 @@ returns-2 : tie.Need-returns-2
 returns-2 c =
     let long = c.before.before.before.before in
     let s = long.before.before.before in
-    file-written s.args.text.now s.args.file.now s.requires.0 s.requires.1.1.1 long.if1.false c.before.before.write-file.new.0
+    file_written s.args.text.now s.args.file.now s.requires.0 s.requires.1.1.1 long.if1.false c.before.before.write-file.new.0
     c.before.before.write-file.ensures
 
-pub import-checked-spec : {M : Type 1} → statement M
-import-checked-spec = tie.close (tie.spec returns write-file-requires same_length returns-2)
+pub import_checked_spec : {M : Type 1} → statement M
+import_checked_spec = tie.close (tie.spec returns write-file-requires same_length returns-2)

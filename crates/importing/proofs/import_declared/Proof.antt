@@ -4,12 +4,12 @@ use mathlib.Core.Path.{◌≡◌, ◌∙◌}
 use Prim.Native.Nat.{ℕ, ◌+◌, ◌*◌, ◌≤◌}
 use native.Mathlib.Omega.{arith}
 use lib.ListN.{length}
-use Rattle.papers.specs.Encoding.{encodeFile}
+use Rattle.papers.specs.Encoding.{encode_file}
 use Rattle.text.specs.Lines.{accepted}
-use Rattle.text.specs.Importing.{importText}
+use Rattle.text.specs.Importing.{import_text}
 use Rattle.importing.specs.declared.checking.RunsChecked.TheVariants as both
 use Rattle.importing.specs.Passes.{typed, list_of, RunsTell}
-use Rattle.importing.proofs.ImportLaws.{flags-are, listed-are, few-atoms, runs-pass, runs-refuse, runs_as, size_is, file-small, text-refused}
+use Rattle.importing.proofs.ImportLaws.{flags_are, listed_are, few_atoms_lem, runs_pass, runs_refuse, runs_as, size_is, file_small, text_refused}
 use borrow.Author.Rules.{rules}
 use Rattle.importing.proofs.import_declared.Statement.{statement}
 use Rattle.importing.proofs.import_declared.Tie as tie
@@ -17,7 +17,7 @@ use Rattle.importing.proofs.import_declared.Tie as tie
 check-runs-requires : tie.Need-check-runs-requires
 check-runs-requires c κs =
     let s = c.before.before in
-    (s.requires.0, flags-are s.args.text.now s.args.flags s.requires.1.1.0)
+    (s.requires.0, flags_are s.args.text.now s.args.flags s.requires.1.1.0)
 
 enum-known-checked : tie.Need-enum-known-checked
 enum-known-checked c = search rules
@@ -40,7 +40,7 @@ returns-2 c =
     let s = checked.before.before.before in
     let text = s.args.text.now in
     let is = c.before.before.before.before.checked2.given.1 ∙ c.before.checked3.given.1 in
-    text-refused text s.args.file.now (runs-refuse text s.requires.0 s.requires.1.1.1 (runs_as text is checked.check-runs.ensures))
+    text_refused text s.args.file.now (runs_refuse text s.requires.0 s.requires.1.1.1 (runs_as text is checked.check-runs.ensures))
 
 -- ---- once the rules are checked
 
@@ -60,13 +60,13 @@ module _ (c : tie.After-known-told) where
   told : RunsTell start.args.text.now (both.Lengths rules integrity)
   told = runs_as start.args.text.now c.before.checked.given.1 checked.check-runs.ensures
 
-  passes : importText start.args.text.now ≡ accepted (typed start.args.text.now)
-  passes = runs-pass start.args.text.now start.pre.0 start.pre.1.1.1 told
+  passes : import_text start.args.text.now ≡ accepted (typed start.args.text.now)
+  passes = runs_pass start.args.text.now start.pre.0 start.pre.1.1.1 told
 
 rising-requires : tie.Need-rising-requires
 rising-requires c κs =
     let s = start c in
-    omega (arith, few-atoms s.args.text.now s.pre.0, s.pre.1.0)
+    omega (arith, few_atoms_lem s.args.text.now s.pre.0, s.pre.1.0)
 
 -- ---- once the abducibles are listed
 
@@ -77,13 +77,13 @@ module _ (c : tie.After-rising) where
   listed : c.rising.result ≡ list_of (typed (start known).args.text.now).abducibles
   listed =
       let s = start known in
-      c.rising.ensures ∙ listed-are s.args.text.now s.args.flags s.pre.1.0 s.pre.1.1.0
+      c.rising.ensures ∙ listed_are s.args.text.now s.args.flags s.pre.1.0 s.pre.1.1.0
 
-  added : 15 + 2 * c.rising.result.count + rules known + integrity known ≡ length (encodeFile (typed (start known).args.text.now))
+  added : 15 + 2 * c.rising.result.count + rules known + integrity known ≡ length (encode_file (typed (start known).args.text.now))
   added = size_is (start known).args.text.now (told known) listed
 
-  small : length (encodeFile (typed (start known).args.text.now)) ≤ 46895
-  small = file-small (start known).args.text.now (passes known)
+  small : length (encode_file (typed (start known).args.text.now)) ≤ 46895
+  small = file_small (start known).args.text.now (passes known)
 
 mul-size : tie.Need-overflow-mul-size
 mul-size c = omega (arith, added c.before, small c.before)
@@ -108,8 +108,8 @@ same_length c = search rules
 returns-3 : tie.Need-returns-3
 returns-3 c = c.before.before.import-checked.ensures
 
-pub import-declared-spec : {M : Type 1} → statement M
-import-declared-spec =
+pub import_declared_spec : {M : Type 1} → statement M
+import_declared_spec =
     tie.close
     (tie.spec
     check-runs-requires

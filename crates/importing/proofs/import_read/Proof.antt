@@ -1,6 +1,6 @@
 -- `importing::import_read` meets its contract.
 -- Assumes nothing.
-use Rattle.importing.proofs.ImportLaws.{text-refused}
+use Rattle.importing.proofs.ImportLaws.{text_refused}
 use borrow.Author.Rules.{rules}
 use Rattle.importing.proofs.import_read.Statement.{statement}
 use Rattle.importing.proofs.import_read.Tie as tie
@@ -12,7 +12,7 @@ returns : tie.Need-returns
 returns c =
     let declared = c.before.before.before in
     let s = declared.before.before.before in
-    text-refused s.args.text.now s.args.file.now (declared.declare.ensures.refuses c.if1.true)
+    text_refused s.args.text.now s.args.file.now (declared.declare.ensures.refuses c.if1.true)
 
 import-declared-requires : tie.Need-import-declared-requires
 import-declared-requires c κs =
@@ -28,5 +28,5 @@ same_length c = search rules
 returns-2 : tie.Need-returns-2
 returns-2 c = c.before.before.import-declared.ensures
 
-pub import-read-spec : {M : Type 1} → statement M
-import-read-spec = tie.close (tie.spec declare-requires returns import-declared-requires same_length returns-2)
+pub import_read_spec : {M : Type 1} → statement M
+import_read_spec = tie.close (tie.spec declare-requires returns import-declared-requires same_length returns-2)

@@ -1,9 +1,9 @@
 -- `importing::import_text` meets its contract.
 -- Assumes nothing.
 use mathlib.Core.Path.{sym, ◌∙◌}
-use Rattle.importing.proofs.ImportLaws.{text-refused}
-use Rattle.importing.proofs.SurveyLaws.{surveyed-refused, surveyed-read, surveyed-atoms}
-use Rattle.text.proofs.Passes.{import-refused}
+use Rattle.importing.proofs.ImportLaws.{text_refused}
+use Rattle.importing.proofs.SurveyLaws.{surveyed_refused, surveyed_read, surveyed_atoms}
+use Rattle.text.proofs.Passes.{import_refused}
 use borrow.Author.Rules.{rules}
 use Rattle.importing.proofs.import_text.Statement.{statement}
 use Rattle.importing.proofs.import_text.Tie as tie
@@ -32,14 +32,14 @@ returns-2 c =
     let s = read.before.before.before in
     let text = s.args.text.now in
     let is = c.before.before.before.before.surveyed2.given.1 ∙ c.before.surveyed3.given.1 in
-    text-refused text s.args.file.now (import-refused text (surveyed-refused text (sym read.survey.ensures ∙ is)))
+    text_refused text s.args.file.now (import_refused text (surveyed_refused text (sym read.survey.ensures ∙ is)))
 
 import-read-requires : tie.Need-import-read-requires
 import-read-requires c κs =
     let read = c.before.before.before.before in
     let text = read.before.before.before.args.text.now in
     let is = sym read.survey.ensures ∙ c.before.before.surveyed.given.1 in
-    (surveyed-read text is, surveyed-atoms text is)
+    (surveyed_read text is, surveyed_atoms text is)
 
 same_length : tie.Need-same-length
 same_length c = search rules
@@ -47,8 +47,8 @@ same_length c = search rules
 returns-3 : tie.Need-returns-3
 returns-3 c = c.before.before.import-read.ensures
 
-pub import-text-spec : {M : Type 1} → statement M
-import-text-spec =
+pub import_text_spec : {M : Type 1} → statement M
+import_text_spec =
     tie.close
     (tie.spec
     survey-requires

@@ -13,19 +13,19 @@ use Rattle.literals.specs.Numbering.{judged}
 use Rattle.papers.specs.declared.Contents.{Contents}
 use Rattle.papers.specs.declared.PapersRead.TheVariants.{Accepted}
 use Rattle.papers.specs.Outcome.{accepted}
-use Rattle.papers.specs.Reading.{Papers, readFile, readPapers, programIn}
-use Rattle.papers.specs.Answers.{papersAnswer}
-use Rattle.papers.proofs.ReadersGot.{papers-refused}
-use Rattle.papers.proofs.FileFacts.{told, program-valid, atoms_are}
+use Rattle.papers.specs.Reading.{Papers, read_file, read_papers, program_in}
+use Rattle.papers.specs.Answers.{papers_answer}
+use Rattle.papers.proofs.ReadersGot.{papers_refused}
+use Rattle.papers.proofs.FileFacts.{told, program_valid, atoms_are}
 use Rattle.papers.proofs.BothAccepted.{BothTold, both_told}
-use Rattle.papers.proofs.ToldLaws.{papers-told}
-use Rattle.dual.specs.Bytes.{dualOf, filled}
-use Rattle.dual_writer.proofs.BothPapers.{papersIn, both_read, both-asked, few-abducibles, few-literals, scenarios-are}
-use Rattle.dual_writer.proofs.BothPapers.{other-told, dual-fits, dual-short, dual-stays, dual-kept, dual-filled}
+use Rattle.papers.proofs.ToldLaws.{papers_told_lem}
+use Rattle.dual.specs.Bytes.{dual_of, filled}
+use Rattle.dual_writer.proofs.BothPapers.{papers_in, both_read, both_asked, few_abducibles_lem, few_literals, scenarios_are}
+use Rattle.dual_writer.proofs.BothPapers.{other_told, dual_fits, dual_short, dual_stays, dual_kept, dual_filled}
 use Rattle.rows.specs.DualBytes.{DualStarts}
-use Rattle.rows.proofs.EntryBytes.{filled-starts}
-use Rattle.judging.specs.Judging.{scenarioCount}
-use Rattle.judging.proofs.JudgingLaws.{judged-refused, judged-short, judged-small, judged-past, judged-done}
+use Rattle.rows.proofs.EntryBytes.{filled_starts}
+use Rattle.judging.specs.Judging.{scenario_count}
+use Rattle.judging.proofs.JudgingLaws.{judged_refused, judged_short, judged_small, judged_past, judged_done}
 use Rattle.judging.proofs.judge.Statement.{statement}
 use Rattle.judging.proofs.judge.Tie as tie
 
@@ -44,22 +44,22 @@ module _ (c : tie.After-known-told) where
   abbrev literals : ℕ
   literals = c.before.read.given.0.1.0
 
-  answer : papersAnswer (readPapers start.args.file.now start.args.sheet.now) ≡ Accepted contents literals
-  answer = sym (papers-told _ asked.read-papers.ensures) ∙ c.before.read.given.1
+  answer : papers_answer (read_papers start.args.file.now start.args.sheet.now) ≡ Accepted contents literals
+  answer = sym (papers_told_lem _ asked.read-papers.ensures) ∙ c.before.read.given.1
 
   both : BothTold start.args.file.now start.args.sheet.now contents literals
   both = both_told start.args.file.now start.args.sheet.now _ _ answer
 
   few : literals ≤ 16
-  few = few-literals both answer
+  few = few_literals both answer
 
   abbrev papers : Papers
-  papers = papersIn start.args.file.now start.args.sheet.now literals
+  papers = papers_in start.args.file.now start.args.sheet.now literals
 
-  read : readPapers start.args.file.now start.args.sheet.now ≡ accepted papers
+  read : read_papers start.args.file.now start.args.sheet.now ≡ accepted papers
   read = both_read both (λ i. (asked.before.before.before.shared-slice-known2.given i).fits)
 
-  program : readFile start.args.file.now ≡ accepted papers.program
+  program : read_file start.args.file.now ≡ accepted papers.program
   program = (told start.args.file.now _ both.answer).is
 
 -- ---- once the dual is written
@@ -96,15 +96,15 @@ module _ (c : tie.After-write-accepted) where
       let more = leb-true counted.before.judged.result (length model) e in
       omega (arith, counted.before.judged.ensures)
 
-  past : listed ≡ false → scenarioCount (papers taken).program ≤ scenario
+  past : listed ≡ false → scenario_count (papers taken).program ≤ scenario
   past e =
-      let total = scenarios-are (both taken) counted.scenario-count.ensures in
+      let total = scenarios_are (both taken) counted.scenario-count.ensures in
       let above = ltb-false scenario counted.scenario-count.result e in
       omega arith
 
-  there : listed ≡ true → scenario < scenarioCount (papers taken).program
+  there : listed ≡ true → scenario < scenario_count (papers taken).program
   there e =
-      let total = scenarios-are (both taken) counted.scenario-count.ensures in
+      let total = scenarios_are (both taken) counted.scenario-count.ensures in
       let below = ltb-true scenario counted.scenario-count.result e in
       omega arith
 
@@ -123,12 +123,12 @@ module _ (c : tie.Else2) where
   within : listed written ≡ true
   within = not-false (listed written) c.if2.false
 
-  fits : length (dualOf (papers (taken written)).program) ≤ length begun.args.dual.now
-  fits = dual-fits (program (taken written)) begun.args.dual.now written.write-accepted.ensures.0 c.before.before.enum-told2.given.1
+  fits : length (dual_of (papers (taken written)).program) ≤ length begun.args.dual.now
+  fits = dual_fits (program (taken written)) begun.args.dual.now written.write-accepted.ensures.0 c.before.before.enum-told2.given.1
 
-  dual-is : written.write-accepted.last.1.1.1.0 ≡ filled (dualOf (papers (taken written)).program) begun.args.dual.now
-  dual-is =
-      dual-filled (program (taken written)) (room written && listed written) begun.args.dual.now written.write-accepted.ensures.1
+  dual_is : written.write-accepted.last.1.1.1.0 ≡ filled (dual_of (papers (taken written)).program) begun.args.dual.now
+  dual_is =
+      dual_filled (program (taken written)) (room written && listed written) begun.args.dual.now written.write-accepted.ensures.1
       (rw (big, within)) fits
 
 read-papers-requires : tie.Need-read-papers-requires
@@ -154,15 +154,15 @@ returns-2 c =
     let other = c.before.before.before.before in
     let asked = other.before.before in
     let a = asked.before.before.before.before.before.args in
-    let told = papers-told _ asked.read-papers.ensures in
-    let e = papers-refused (readPapers a.file.now a.sheet.now) told (other.read2.given.1 ∙ c.before.read3.given.1) in
-    judged-refused e a.scenario a.dual.now a.model.now
+    let told = papers_told_lem _ asked.read-papers.ensures in
+    let e = papers_refused (read_papers a.file.now a.sheet.now) told (other.read2.given.1 ∙ c.before.read3.given.1) in
+    judged_refused e a.scenario a.dual.now a.model.now
 
 judged-requires : tie.Need-judged-requires
 judged-requires c κs = search rules
 
 scenario-count-requires : tie.Need-scenario-count-requires
-scenario-count-requires c κs = few-abducibles (both c.before)
+scenario-count-requires c κs = few_abducibles_lem (both c.before)
 
 fold-places-requires : tie.Need-fold-places-requires
 fold-places-requires c κs = (both c.before.before).answer
@@ -182,9 +182,9 @@ returns-3 c =
     let p = taken w in
     let a = (start p).args in
     let ensured = w.write-accepted.ensures in
-    let short = dual-short (program p) a.dual.now ensured.0 (other-told w.write-accepted.result c.match3.keys2) in
-    judged-short (papers p) (read p) a.scenario a.dual.now a.model.now short
-    (dual-stays (program p) (room w && listed w) a.dual.now ensured.1 short)
+    let short = dual_short (program p) a.dual.now ensured.0 (other_told w.write-accepted.result c.match3.keys2) in
+    judged_short (papers p) (read p) a.scenario a.dual.now a.model.now short
+    (dual_stays (program p) (room w && listed w) a.dual.now ensured.1 short)
 
 same-length-2 : tie.Need-same-length-2
 same-length-2 c = search rules
@@ -196,9 +196,9 @@ returns-4 c =
     let a = (start p).args in
     let ensured = w.write-accepted.ensures in
     let none = not-true (room w) c.if1.true in
-    judged-small (papers p) (read p) a.scenario a.dual.now a.model.now
-    (dual-fits (program p) a.dual.now ensured.0 c.before.enum-told2.given.1) (small w none)
-    (dual-kept (program p) (room w && listed w) a.dual.now ensured.1 (rw none))
+    judged_small (papers p) (read p) a.scenario a.dual.now a.model.now
+    (dual_fits (program p) a.dual.now ensured.0 c.before.enum-told2.given.1) (small w none)
+    (dual_kept (program p) (room w && listed w) a.dual.now ensured.1 (rw none))
 
 same-length-3 : tie.Need-same-length-3
 same-length-3 c = search rules
@@ -211,9 +211,9 @@ returns-5 c =
     let ensured = w.write-accepted.ensures in
     let big = not-false (room w) c.before.if1.false in
     let none = not-true (listed w) c.if2.true in
-    judged-past (papers p) (read p) a.scenario a.dual.now a.model.now
-    (dual-fits (program p) a.dual.now ensured.0 c.before.before.enum-told2.given.1) (large w big) (past w none)
-    (dual-kept (program p) (room w && listed w) a.dual.now ensured.1 (rw (big, none)))
+    judged_past (papers p) (read p) a.scenario a.dual.now a.model.now
+    (dual_fits (program p) a.dual.now ensured.0 c.before.before.enum-told2.given.1) (large w big) (past w none)
+    (dual_kept (program p) (room w && listed w) a.dual.now ensured.1 (rw (big, none)))
 
 mul-end : tie.Need-overflow-mul-end
 mul-end c = let f = few (taken (written c)) in omega arith
@@ -236,11 +236,11 @@ judge-accepted-requires c κs =
     let w = written passed in
     let p = taken w in
     let a = (start p).args in
-    let program = programIn a.file.now in (
+    let program = program_in a.file.now in (
       record {
         walked = w.before.before.before.fold-places.ensures;
-        starts = subst (DualStarts program) (sym (dual-is passed)) (filled-starts program (program-valid a.file.now _ (both p).answer) a.dual.now);
-        asked = both-asked (both p) (λ i. ((asked p).before.before.before.shared-slice-known2.given i).fits);
+        starts = subst (DualStarts program) (sym (dual_is passed)) (filled_starts program (program_valid a.file.now _ (both p).answer) a.dual.now);
+        asked = both_asked (both p) (λ i. ((asked p).before.before.before.shared-slice-known2.given i).fits);
       },
       large w (big passed),
     )
@@ -258,11 +258,11 @@ returns-6 c =
     let w = written passed in
     let p = taken w in
     let a = (start p).args in
-    judged-done (papers p) (read p) a.scenario a.dual.now a.model.now
-    (fits passed) (large w (big passed)) (there w (within passed)) (dual-is passed) ensured.0 ensured.1.0 ensured.1.1
+    judged_done (papers p) (read p) a.scenario a.dual.now a.model.now
+    (fits passed) (large w (big passed)) (there w (within passed)) (dual_is passed) ensured.0 ensured.1.0 ensured.1.1
 
-pub judge-spec : {M : Type 1} → statement M
-judge-spec =
+pub judge_spec : {M : Type 1} → statement M
+judge_spec =
     tie.close
     (tie.spec
     read-papers-requires

@@ -39,6 +39,6 @@ loop-again c =
 returns : tie.Need-returns invariant-loop decreases-loop
 returns c = let l = c.before.loop in let e : l.i ≡ c.before.before.args.abducibles = omega arith in l.invariant.1 ∙ ap (λ (x : ℕ). 3 ^ x) e
 
-pub scenario-count-spec : {M : Type 1} → statement M
-scenario-count-spec =
+pub scenario_count_spec : {M : Type 1} → statement M
+scenario_count_spec =
     tie.close (tie.spec invariant-loop decreases-loop loop-holds mul-total add-i loop-less loop-again returns)

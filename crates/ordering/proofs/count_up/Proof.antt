@@ -4,7 +4,7 @@ use mathlib.Core.Path.{◌≡◌, refl}
 use Prim.Native.Nat.{◌-◌, ◌≤◌}
 use native.Mathlib.Omega.{arith}
 use Rattle.ordering.specs.Orders.{Written, own}
-use Rattle.ordering.proofs.OrderLaws.{written-more}
+use Rattle.ordering.proofs.OrderLaws.{written_more}
 use borrow.Author.Rules.{rules}
 use Rattle.ordering.proofs.count_up.Statement.{statement}
 use Rattle.ordering.proofs.count_up.Tie as tie
@@ -36,7 +36,7 @@ loop-less c = search rules
 loop-again : tie.Need-loop-preserved invariant-loop decreases-loop
 loop-again c =
     let l = c.before.loop in
-    (written-more l.i (let s = l.invariant.0.stays.sized in omega arith) refl l.invariant.0, omega arith)
+    (written_more l.i (let s = l.invariant.0.stays.sized in omega arith) refl l.invariant.0, omega arith)
 
 same_length : tie.Need-same-length invariant-loop decreases-loop
 same_length c = search rules
@@ -46,8 +46,8 @@ returns c =
     let e : c.before.loop.i ≡ c.before.before.args.count = omega arith in
     rw e at c.before.loop.invariant.0
 
-pub count-up-spec : {M : Type 1} → statement M
-count-up-spec =
+pub count_up_spec : {M : Type 1} → statement M
+count_up_spec =
     tie.close
     (tie.spec
     invariant-loop

@@ -37,8 +37,8 @@ same_length c = search rules
 returns : tie.Need-returns invariant-loop decreases-loop
 returns c = search rules
 
-pub invert-spec : {M : Type 1} → statement M
-invert-spec =
+pub invert_spec : {M : Type 1} → statement M
+invert_spec =
     tie.close
     (tie.spec
     invariant-loop

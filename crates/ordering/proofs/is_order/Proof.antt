@@ -4,7 +4,7 @@ use mathlib.Core.Bool.{false≢true}
 use Prim.Native.Nat.{ℕ, ◌-◌, ◌≤◌, ◌<◌}
 use native.Mathlib.Omega.{arith}
 use Rattle.ordering.specs.Orders.{Placed}
-use Rattle.ordering.proofs.OrderLaws.{placed-there}
+use Rattle.ordering.proofs.OrderLaws.{placed_there}
 use borrow.Author.Rules.{rules}
 use borrow.Author.Count.{below_more}
 use Rattle.ordering.proofs.is_order.Statement.{statement}
@@ -69,7 +69,7 @@ loop-again c =
     let l = row.before.before.before.loop in
     let a = row.before.before.before.before.before.before.args in (
       below_more (Placed a.count a.order.now a.ranks.now) l.k l.invariant.0
-          (placed-there a.order.now a.ranks.now row.wide.ensures.0 rank.before.before.if1.false rank.wide2.ensures.0
+          (placed_there a.order.now a.ranks.now row.wide.ensures.0 rank.before.before.if1.false rank.wide2.ensures.0
           back.before.before.if2.false back.wide3.ensures.0 c.if3.false),
       omega arith,
     )
@@ -77,8 +77,8 @@ loop-again c =
 returns-4 : tie.Need-returns-4 invariant-loop decreases-loop
 returns-4 c = λ e. record { placed = λ k h. c.before.loop.invariant.0 k (omega arith) }
 
-pub is-order-spec : {M : Type 1} → statement M
-is-order-spec =
+pub is_order_spec : {M : Type 1} → statement M
+is_order_spec =
     tie.close
     (tie.spec
     invariant-loop

@@ -1,6 +1,6 @@
 -- `ordering::settle` meets its contract.
 -- Assumes nothing.
-use Rattle.ordering.proofs.OrderLaws.{own-ordered}
+use Rattle.ordering.proofs.OrderLaws.{own_ordered}
 use borrow.Author.Rules.{rules}
 use Rattle.ordering.proofs.settle.Statement.{statement}
 use Rattle.ordering.proofs.settle.Tie as tie
@@ -32,10 +32,10 @@ same-length-4 c = search rules
 returns-2 : tie.Need-returns-2
 returns-2 c =
     let first = c.before.before.before.before.before.before.count-up in
-    own-ordered first.ensures c.before.before.count-up2.ensures
+    own_ordered first.ensures c.before.before.count-up2.ensures
 
-pub settle-spec : {M : Type 1} → statement M
-settle-spec =
+pub settle_spec : {M : Type 1} → statement M
+settle_spec =
     tie.close
     (tie.spec
     is-order-requires

@@ -5,7 +5,7 @@ use Prim.Native.Nat.{ℕ, ◌-◌, ◌≤◌}
 use native.Mathlib.Omega.{arith}
 use lib.ListN.{get_or}
 use Rattle.ordering.specs.Orders.{Written, start_at}
-use Rattle.ordering.proofs.OrderLaws.{written-more}
+use Rattle.ordering.proofs.OrderLaws.{written_more}
 use borrow.Author.Rules.{rules}
 use Rattle.ordering.proofs.visit.Statement.{statement}
 use Rattle.ordering.proofs.visit.Tie as tie
@@ -52,7 +52,7 @@ loop-again : tie.Need-loop-preserved invariant-loop decreases-loop
 loop-again c =
     let l = c.before.before.before.before.loop in
     let a = c.before.before.before.before.before.before.before.before.args in (
-      written-more _ (let s = l.invariant.0.stays.sized in omega arith) (ap (λ (n : ℕ). get_or a.starts.now n 0) c.before.wide.ensures.0) l.invariant.0,
+      written_more _ (let s = l.invariant.0.stays.sized in omega arith) (ap (λ (n : ℕ). get_or a.starts.now n 0) c.before.wide.ensures.0) l.invariant.0,
       omega arith,
     )
 
@@ -64,8 +64,8 @@ returns c =
     let e : c.before.loop.i ≡ c.before.before.before.before.before.args.count = omega arith in
     rw e at c.before.loop.invariant.0
 
-pub visit-spec : {M : Type 1} → statement M
-visit-spec =
+pub visit_spec : {M : Type 1} → statement M
+visit_spec =
     tie.close
     (tie.spec
     invariant-loop

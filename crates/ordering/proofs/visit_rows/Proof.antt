@@ -1,6 +1,6 @@
 -- `ordering::visit_rows` meets its contract.
 -- Assumes nothing.
-use Rattle.ordering.proofs.OrderLaws.{visits-all}
+use Rattle.ordering.proofs.OrderLaws.{visits_all}
 use borrow.Author.Rules.{rules}
 use Rattle.ordering.proofs.visit_rows.Statement.{statement}
 use Rattle.ordering.proofs.visit_rows.Tie as tie
@@ -29,10 +29,10 @@ returns : tie.Need-returns
 returns c =
     let visited = c.before.before.visit in
     let settled = c.before.before.before.before.before.before.before.before.before.settle in
-    (visits-all settled.ensures visited.ensures, visited.ensures.stays)
+    (visits_all settled.ensures visited.ensures, visited.ensures.stays)
 
-pub visit-rows-spec : {M : Type 1} → statement M
-visit-rows-spec =
+pub visit_rows_spec : {M : Type 1} → statement M
+visit_rows_spec =
     tie.close
     (tie.spec
     invert-requires

@@ -5,9 +5,9 @@ use mathlib.Core.Path.{◌≡◌, ap, ◌∙◌}
 use Prim.Native.Nat.{ℕ, ◌-◌, ◌≤◌}
 use native.Mathlib.Omega.{arith}
 use lib.ListN.{length, get_or}
-use Rattle.parts.specs.Parts.{headAt}
+use Rattle.parts.specs.Parts.{head_at}
 use Rattle.parts.specs.Reaches.{Lasts}
-use Rattle.parts.proofs.ReachLaws.{lasts-more}
+use Rattle.parts.proofs.ReachLaws.{lasts_more}
 use Rattle.parts.proofs.find_lasts.Statement.{statement}
 use Rattle.parts.proofs.find_lasts.Tie as tie
 
@@ -45,14 +45,14 @@ loop-less : tie.Need-loop-smaller invariant-loop decreases-loop
 loop-less c = search rules
 
 loop-again : tie.Need-loop-preserved invariant-loop decreases-loop
-unfolding headAt
+unfolding head_at
 loop-again c =
     let placed = c.before.before in
     let got = placed.before.before in
     let l = got.before.before.before.before.loop in
     let a = got.before.before.before.before.before.before.before.before.args in (
       rw placed.put.ensures
-          (lasts-more got.before.before.before.loop-test.true
+          (lasts_more got.before.before.before.loop-test.true
           (got.get.ensures.0 ∙ ap (λ (n : ℕ). get_or a.numbers.now n 0) got.before.place_of.ensures) l.invariant.0),
       (placed.put.auto.0 ∙ l.invariant.1.0, omega arith),
     )
@@ -65,8 +65,8 @@ returns c =
     let e : c.before.loop.done ≡ c.before.before.before.before.before.args.count = omega arith in
     rw e at c.before.loop.invariant.0
 
-pub find-lasts-spec : {M : Type 1} → statement M
-find-lasts-spec =
+pub find_lasts_spec : {M : Type 1} → statement M
+find_lasts_spec =
     tie.close
     (tie.spec
     invariant-loop

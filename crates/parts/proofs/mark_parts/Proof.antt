@@ -4,8 +4,8 @@ use borrow.Author.Rules.{rules}
 use mathlib.Core.Path.{◌≡◌}
 use Prim.Native.Nat.{◌-◌, ◌≤◌}
 use native.Mathlib.Omega.{arith}
-use Rattle.parts.specs.Parts.{placeOf}
-use Rattle.parts.proofs.ReachLaws.{MarkedTo, still-unmarked, marked_more, marked-parted}
+use Rattle.parts.specs.Parts.{place_of}
+use Rattle.parts.proofs.ReachLaws.{MarkedTo, still_unmarked, marked_more, marked_parted}
 use Rattle.parts.proofs.mark_parts.Statement.{statement}
 use Rattle.parts.proofs.mark_parts.Tie as tie
 
@@ -37,7 +37,7 @@ place-of-requires : tie.Need-place-of-requires invariant-loop decreases-loop
 place-of-requires c κs = search rules
 
 reach-of-requires : tie.Need-reach-of-requires invariant-loop decreases-loop
-unfolding placeOf
+unfolding place_of
 reach-of-requires c κs =
     let start = c.before.before.before.before.before.before.before.before.before.before.before in
     (start.requires.0, (start.requires.1.0, (let e = c.place_of.ensures in omega arith)))
@@ -48,7 +48,7 @@ add-mark c = search rules
 mark-requires : tie.Need-mark-requires invariant-loop decreases-loop
 mark-requires c κs =
     let start = c.before.before.before.before.before.before.before.before.before.before.before.before in
-    still-unmarked start.requires.1.1.1 c.before.before.before.before.loop-test.true c.before.before.before.before.before.loop.invariant.0
+    still_unmarked start.requires.1.1.1 c.before.before.before.before.loop-test.true c.before.before.before.before.before.loop.invariant.0
 
 mul-visits : tie.Need-overflow-mul-visits invariant-loop decreases-loop
 mul-visits c = search rules
@@ -80,10 +80,10 @@ returns c =
     let start = c.before.before.before.before.before.before.before.before in
     let e : c.before.loop.done ≡ start.args.count = omega arith in
     let m = rw e at c.before.loop.invariant.0 in
-    (marked-parted start.args.numbers.now start.requires.1.1.1 c.before.before.before.find-lasts.ensures m, m.marked)
+    (marked_parted start.args.numbers.now start.requires.1.1.1 c.before.before.before.find-lasts.ensures m, m.marked)
 
-pub mark-parts-spec : {M : Type 1} → statement M
-mark-parts-spec =
+pub mark_parts_spec : {M : Type 1} → statement M
+mark_parts_spec =
     tie.close
     (tie.spec
     invariant-loop

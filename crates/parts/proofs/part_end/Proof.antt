@@ -7,13 +7,13 @@ use Prim.Native.Nat.{ℕ, ◌+◌, ◌-◌, ◌≤◌, ◌<◌}
 use native.Mathlib.Omega.{arith}
 use native.Mathlib.Decide.{ℕ_discrete}
 use lib.ListN.{get_or}
-use Rattle.parts.specs.Parts.{endsPart}
+use Rattle.parts.specs.Parts.{ends_part}
 use Rattle.parts.proofs.part_end.Statement.{statement}
 use Rattle.parts.proofs.part_end.Tie as tie
 
 abbrev invariant-loop : tie.invariant-loop
 invariant-loop visits start count end₀ end =
-    (start < end) × (end ≤ count) × ((i : ℕ) → start ≤ i → i + 1 < end → endsPart (get_or visits i 0) ≡ false)
+    (start < end) × (end ≤ count) × ((i : ℕ) → start ≤ i → i + 1 < end → ends_part (get_or visits i 0) ≡ false)
 
 abbrev decreases-loop : tie.decreases-loop
 decreases-loop visits start count end₀ end = count - end
@@ -54,11 +54,11 @@ loop-again : tie.Need-loop-preserved invariant-loop decreases-loop
 loop-again c =
     let visits = c.before.before.before.before.before.before.args.visits.now in
     let l = c.before.before.before.before.loop in
-    let unmarked : endsPart (get_or visits (l.end - 1) 0) ≡ false = sym c.before.ends-part.ensures ∙ c.if1.false in (
+    let unmarked : ends_part (get_or visits (l.end - 1) 0) ≡ false = sym c.before.ends-part.ensures ∙ c.if1.false in (
       omega arith,
       omega arith,
       λ i h k. elim (ℕ_discrete i (l.end - 1)) [
-        | yes e ↦ ap (λ (j : ℕ). endsPart (get_or visits j 0)) e ∙ unmarked
+        | yes e ↦ ap (λ (j : ℕ). ends_part (get_or visits j 0)) e ∙ unmarked
         | no ne ↦ l.invariant.2 i h (omega (arith, ne))
       ],
     )
@@ -66,8 +66,8 @@ loop-again c =
 returns-2 : tie.Need-returns-2 invariant-loop decreases-loop
 returns-2 c = record { later = omega arith; within = omega arith; marked = λ h. absurd (omega arith); first = c.before.loop.invariant.2 }
 
-pub part-end-spec : {M : Type 1} → statement M
-part-end-spec =
+pub part_end_spec : {M : Type 1} → statement M
+part_end_spec =
     tie.close
     (tie.spec
     invariant-loop

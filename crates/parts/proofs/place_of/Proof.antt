@@ -2,7 +2,7 @@
 -- Assumes nothing.
 use borrow.Author.Rules.{rules}
 use mathlib.Core.Path.{refl}
-use Rattle.parts.specs.Parts.{placeOf}
+use Rattle.parts.specs.Parts.{place_of}
 use Rattle.parts.proofs.place_of.Statement.{statement}
 use Rattle.parts.proofs.place_of.Tie as tie
 
@@ -10,8 +10,8 @@ cast-result : tie.Need-overflow-cast-result
 cast-result c = search rules
 
 returns : tie.Need-returns
-unfolding placeOf
+unfolding place_of
 returns c = refl
 
-pub place-of-spec : {M : Type 1} → statement M
-place-of-spec = tie.close (tie.spec cast-result returns)
+pub place_of_spec : {M : Type 1} → statement M
+place_of_spec = tie.close (tie.spec cast-result returns)

@@ -55,8 +55,8 @@ returns c =
     let e : l.at ≡ c.before.before.get.result = omega arith in
     (l.invariant.0, rw (e ∙ c.before.before.get.ensures.0) at l.invariant.1.0)
 
-pub reach-of-spec : {M : Type 1} → statement M
-reach-of-spec =
+pub reach_of_spec : {M : Type 1} → statement M
+reach_of_spec =
     tie.close
     (tie.spec
     invariant-loop

@@ -9,15 +9,15 @@ use lib.ListN.{length}
 use Rattle.literals.specs.Numbering.{judged}
 use Rattle.papers.specs.Program.{Program}
 use Rattle.papers.specs.Field.{numbers}
-use Rattle.papers.specs.Reading.{programIn}
+use Rattle.papers.specs.Reading.{program_in}
 use Rattle.parts.specs.Parts.{Unmarked}
-use Rattle.papers.proofs.NumbersWalked.{count-numbers}
+use Rattle.papers.proofs.NumbersWalked.{count_numbers}
 use Rattle.papers.proofs.FileFacts.{atoms_are}
-use Rattle.papers.proofs.FoldsWalked.{rules-counted, few-folds}
-use Rattle.copying.proofs.LaidLaws.{laid-first}
-use Rattle.rows.specs.Rows.{ruleRows, entry_rows, joined}
-use Rattle.rows.proofs.RowLaws.{rule-rows-count, rule-rows-bound, entry-rows-count, entry-rows-bound}
-use Rattle.preparing.proofs.RowsPrepared.{visits-unmarked, rows-prepared}
+use Rattle.papers.proofs.FoldsWalked.{rules_counted, few_folds}
+use Rattle.copying.proofs.LaidLaws.{laid_first}
+use Rattle.rows.specs.Rows.{rule_rows, entry_rows, joined}
+use Rattle.rows.proofs.RowLaws.{rule_rows_count, rule_rows_bound, entry_rows_count, entry_rows_bound}
+use Rattle.preparing.proofs.RowsPrepared.{visits_unmarked, rows_prepared}
 use Rattle.preparing.proofs.prepare.Statement.{statement}
 use Rattle.preparing.proofs.prepare.Tie as tie
 
@@ -25,22 +25,22 @@ use Rattle.preparing.proofs.prepare.Tie as tie
 
 module _ (c : tie.Start) where
   abbrev program : Program
-  program = programIn c.args.file.now
+  program = program_in c.args.file.now
 
   abbrev count : ℕ
   count = c.args.contents.rules.count + c.args.contents.integrity.count
 
   few : count ≤ 1280
-  few = few-folds c.args.file.now c.args.contents c.requires.0.walked.answer
+  few = few_folds c.args.file.now c.args.contents c.requires.0.walked.answer
 
-  rules-listed : count ≡ length (ruleRows program)
-  rules-listed = rules-counted c.args.file.now c.args.contents c.requires.0.walked.answer ∙ sym (rule-rows-count program)
+  rules_listed : count ≡ length (rule_rows program)
+  rules_listed = rules_counted c.args.file.now c.args.contents c.requires.0.walked.answer ∙ sym (rule_rows_count program)
 
-  rules-room : length (joined (ruleRows program)) ≤ length c.args.rules.now
-  rules-room = omega (arith, rule-rows-bound program c.requires.0.starts.valid, c.requires.1.rules-fit)
+  rules_room : length (joined (rule_rows program)) ≤ length c.args.rules.now
+  rules_room = omega (arith, rule_rows_bound program c.requires.0.starts.valid, c.requires.1.rules_fit)
 
-  entries-room : length (joined (entry_rows program)) ≤ length c.args.entries.now
-  entries-room = omega (arith, entry-rows-bound program c.requires.0.starts.valid, c.requires.1.entries_fit)
+  entries_room : length (joined (entry_rows program)) ≤ length c.args.entries.now
+  entries_room = omega (arith, entry_rows_bound program c.requires.0.starts.valid, c.requires.1.entries_fit)
 
 -- ---- where the judged literals are counted
 
@@ -51,11 +51,11 @@ module _ (c : tie.After-judged) where
   counted : c.judged.result ≡ judged (program start).atoms
   counted = c.judged.ensures ∙ ap judged (sym (atoms_are start.args.file.now start.args.contents start.pre.0.walked.answer))
 
-  judged-few : c.judged.result ≤ 513
-  judged-few = omega (arith, counted, start.pre.0.starts.valid.fewAtoms)
+  judged_few : c.judged.result ≤ 513
+  judged_few = omega (arith, counted, start.pre.0.starts.valid.few_atoms)
 
-  entries-listed : c.judged.result ≡ length (entry_rows (program start))
-  entries-listed = counted ∙ sym (entry-rows-count (program start))
+  entries_listed : c.judged.result ≡ length (entry_rows (program start))
+  entries_listed = counted ∙ sym (entry_rows_count (program start))
 
 -- ---- one call after the other
 
@@ -101,7 +101,7 @@ order-rows-requires c κs =
     let r = rules-at d.before in
     let j = judged-at r in
     let s = start j in
-    let few-entries = judged-few j in
+    let few-entries = judged_few j in
     let few-rules = few s in (
       few-entries,
       (
@@ -109,8 +109,8 @@ order-rows-requires c κs =
         (
           omega (arith, d.decode-dual.kept.1.1.1.1.0),
           (
-            omega (arith, s.pre.1.entry-visits-fit),
-            (omega (arith, r.decode-rules.kept.1.1.1.1.0), omega (arith, s.pre.1.rule-visits-fit)),
+            omega (arith, s.pre.1.entry_visits_fit),
+            (omega (arith, r.decode-rules.kept.1.1.1.1.0), omega (arith, s.pre.1.rule_visits_fit)),
           ),
         ),
       ),
@@ -131,23 +131,23 @@ module _ (o : tie.After-order-rows) where
   abbrev begun : tie.Start
   begun = start counts
 
-  abbrev rules-ordered : List ℕ
-  rules-ordered = o.order-rows.last.1.1.1.1.1.1.0
+  abbrev rules_ordered : List ℕ
+  rules_ordered = o.order-rows.last.1.1.1.1.1.1.0
 
-  abbrev entries-ordered : List ℕ
-  entries-ordered = o.order-rows.last.1.1.0
+  abbrev entries_ordered : List ℕ
+  entries_ordered = o.order-rows.last.1.1.0
 
-  rules-unmarked : Unmarked (count begun) rules-ordered
-  rules-unmarked =
+  rules_unmarked : Unmarked (count begun) rules_ordered
+  rules_unmarked =
       let p = program begun in
-      visits-unmarked (ruleRows p) _ rules-done.decode-rules.last.1.1.1.1.0 rules-ordered (count begun) (rules-listed begun)
-      (omega (arith, rule-rows-bound p begun.pre.0.starts.valid)) rules-done.decode-rules.ensures.1 o.order-rows.ensures.1.0
+      visits_unmarked (rule_rows p) _ rules-done.decode-rules.last.1.1.1.1.0 rules_ordered (count begun) (rules_listed begun)
+      (omega (arith, rule_rows_bound p begun.pre.0.starts.valid)) rules-done.decode-rules.ensures.1 o.order-rows.ensures.1.0
 
-  entries-unmarked : Unmarked counts.judged.result entries-ordered
-  entries-unmarked =
+  entries_unmarked : Unmarked counts.judged.result entries_ordered
+  entries_unmarked =
       let p = program begun in
-      visits-unmarked (entry_rows p) _ dual-done.decode-dual.last.1.1.1.1.0 entries-ordered counts.judged.result (entries-listed counts)
-      (omega (arith, entry-rows-bound p begun.pre.0.starts.valid)) dual-done.decode-dual.ensures.1 o.order-rows.ensures.0.0
+      visits_unmarked (entry_rows p) _ dual-done.decode-dual.last.1.1.1.1.0 entries_ordered counts.judged.result (entries_listed counts)
+      (omega (arith, entry_rows_bound p begun.pre.0.starts.valid)) dual-done.decode-dual.ensures.1 o.order-rows.ensures.0.0
 
 -- ---- where they are marked
 
@@ -162,19 +162,19 @@ mark-parts-requires c κs =
     let o = c.before.before.before.before.before.before in
     let few-rules = few (begun o) in
     let long = o.order-rows.ensures.1.1.sized in
-    (omega arith, (few-rules, (omega (arith, (begun o).requires.1.rule-visits-fit), rules-unmarked o)))
+    (omega arith, (few-rules, (omega (arith, (begun o).requires.1.rule_visits_fit), rules_unmarked o)))
 
 mark-parts-requires-2 : tie.Need-mark-parts-requires-2
 mark-parts-requires-2 c κs =
     let o = ordered c.before.before.before.before in
-    let few-entries = judged-few (counts o) in
+    let few-entries = judged_few (counts o) in
     let long = o.order-rows.ensures.0.1.sized in
-    (omega arith, (omega arith, (omega (arith, (begun o).pre.1.entry-visits-fit), entries-unmarked o)))
+    (omega arith, (omega arith, (omega (arith, (begun o).pre.1.entry_visits_fit), entries_unmarked o)))
 
 copy-numbers-requires : tie.Need-copy-numbers-requires
 copy-numbers-requires c κs =
     let s = begun (ordered (rules-marked c.before.before.before)) in
-    omega (arith, s.pre.0.asked.few, s.pre.1.asked-fit)
+    omega (arith, s.pre.0.asked.few, s.pre.1.asked_fit)
 
 same_length : tie.Need-same-length
 same_length c = (rules-done (ordered (rules-marked c.before.before.before.before.before.before))).decode-rules.kept.1.1.1.0
@@ -201,26 +201,26 @@ returns c =
     let r = rules-done o in
     let j = counts o in
     let s = begun o in
-    let folds = rules-counted s.args.file.now s.args.contents s.pre.0.walked.answer in
-    let asked = sym (count-numbers s.args.query.now) in
+    let folds = rules_counted s.args.file.now s.args.contents s.pre.0.walked.answer in
+    let asked = sym (count_numbers s.args.query.now) in
     record {
-      rules-in =
-          rows-prepared 0 (ruleRows (program s)) s.args.rules.now r.decode-rules.last.1.1.1.0 s.args.rule-visits.now
-          (rules-ordered o) m.mark-parts.last.1.1.0 (rules-room s) (omega (arith, few s, rules-listed s, s.pre.1.rule-visits-fit)) _
-          r.decode-rules.last.1.1.1.1.0 r.decode-rules.ensures.0 r.decode-rules.ensures.1 (count s) (rules-listed s)
+      rules_in_lem =
+          rows_prepared 0 (rule_rows (program s)) s.args.rules.now r.decode-rules.last.1.1.1.0 s.args.rule-visits.now
+          (rules_ordered o) m.mark-parts.last.1.1.0 (rules_room s) (omega (arith, few s, rules_listed s, s.pre.1.rule_visits_fit)) _
+          r.decode-rules.last.1.1.1.1.0 r.decode-rules.ensures.0 r.decode-rules.ensures.1 (count s) (rules_listed s)
           o.order-rows.ensures.1.0 o.order-rows.ensures.1.1 m.mark-parts.ensures.0 m.mark-parts.ensures.1;
-      entries-in =
-          rows-prepared 1 (entry_rows (program s)) s.args.entries.now d.decode-dual.last.1.1.1.0 s.args.entry-visits.now
-          (entries-ordered o) e.mark-parts2.new.1.1.0 (entries-room s)
-          (omega (arith, judged-few j, entries-listed j, s.pre.1.entry-visits-fit)) _
-          d.decode-dual.last.1.1.1.1.0 d.decode-dual.ensures.0 d.decode-dual.ensures.1 j.judged.result (entries-listed j)
+      entries_in =
+          rows_prepared 1 (entry_rows (program s)) s.args.entries.now d.decode-dual.last.1.1.1.0 s.args.entry-visits.now
+          (entries_ordered o) e.mark-parts2.new.1.1.0 (entries_room s)
+          (omega (arith, judged_few j, entries_listed j, s.pre.1.entry_visits_fit)) _
+          d.decode-dual.last.1.1.1.1.0 d.decode-dual.ensures.0 d.decode-dual.ensures.1 j.judged.result (entries_listed j)
           o.order-rows.ensures.0.0 o.order-rows.ensures.0.1 e.mark-parts2.ensures.0 e.mark-parts2.ensures.1;
-      query-in = copied.ensures ∙ laid-first (numbers s.args.query.now) s.args.asked.now;
+      query_in = copied.ensures ∙ laid_first (numbers s.args.query.now) s.args.asked.now;
       counted = λ i. record { folds = folds i; judged = counted j i; asked = asked i };
     }
 
-pub prepare-spec : {M : Type 1} → statement M
-prepare-spec =
+pub prepare_spec : {M : Type 1} → statement M
+prepare_spec =
     tie.close
     (tie.spec
     judged-requires

@@ -7,19 +7,19 @@ use native.Mathlib.Omega.{arith}
 use borrow.Author.Rules.{rules}
 use lib.ListN.{length, take, drop, length-take}
 use Rattle.papers.specs.Field.{numbers}
-use Rattle.papers.specs.Reading.{readPapers}
+use Rattle.papers.specs.Reading.{read_papers}
 use Rattle.papers.proofs.NumberLaws.{Bytes}
-use Rattle.trying.specs.Trying.{problemOf}
-use Rattle.printout.specs.DeskSearch.{AcceptedAs, problemFor}
-use Rattle.printout.specs.Output.{foundLines}
-use Rattle.printout.proofs.PaperLaws.{problem-is, small, program-valid, atoms-told}
-use Rattle.printout.proofs.PaperLaws.{abducibles-below, listed-are, few-listed, listed-within, listed-there}
-use Rattle.printout.proofs.TextLaws.{few-found, lines-few, text-put, text-is}
+use Rattle.trying.specs.Trying.{problem_of}
+use Rattle.printout.specs.DeskSearch.{AcceptedAs, problem_for}
+use Rattle.printout.specs.Output.{found_lines}
+use Rattle.printout.proofs.PaperLaws.{problem_is, small, program_valid, atoms_told}
+use Rattle.printout.proofs.PaperLaws.{abducibles_below, listed_are, few_listed, listed_within, listed_there}
+use Rattle.printout.proofs.TextLaws.{few_found, lines_few, text_put, text_is}
 use Rattle.printout.proofs.write_accepted.Statement.{statement}
 use Rattle.printout.proofs.write_accepted.Tie as tie
 
 sixteen : (c : tie.Start) → c.args.contents.abducibles ≤ 16
-sixteen c = few-listed c.args.file.now c.args.sheet.now c.requires.0.is c.requires.0.told
+sixteen c = few_listed c.args.file.now c.args.sheet.now c.requires.0.is c.requires.0.told
 
 -- ---- once the search is over
 
@@ -36,7 +36,7 @@ module _ (c : tie.After-search-all) where
   abbrev sheet : List ℕ
   sheet = start.args.sheet.now
 
-  abbrev both : AcceptedAs (readPapers file sheet) start.args.contents
+  abbrev both : AcceptedAs (read_papers file sheet) start.args.contents
   both = start.pre.0
 
   -- The list that the search left.
@@ -54,16 +54,16 @@ module _ (c : tie.After-search-all) where
   bytes i = (counted.before.before.before.before.before.shared-slice-known.given i).fits
 
   there : both.papers.program.abducibles ≡ listed
-  there = listed-there file sheet both.is both.told bytes
+  there = listed_there file sheet both.is both.told bytes
 
   -- The lines of the found entries are at most 95 bytes each.
-  lines_long : length (foundLines listed (take c.search-all.result.reached.at.found list)) ≤ 95 * length list
+  lines_long : length (found_lines listed (take c.search-all.result.reached.at.found list)) ≤ 95 * length list
   lines_long =
-      let stands = rw (problem-is both.is) at c.search-all.ensures.0 in
-      let lines = lines-few (problemOf both.papers) (small file sheet both.is) list c.search-all.result stands in
-      let few = (program-valid file sheet both.is).fewAbducibles in
-      let most = lines both.papers.program.abducibles (abducibles-below file sheet both.is) few in
-      subst (λ (l : List ℕ). length (foundLines l (take c.search-all.result.reached.at.found list)) ≤ 95 * length list) there most
+      let stands = rw (problem_is both.is) at c.search-all.ensures.0 in
+      let lines = lines_few (problem_of both.papers) (small file sheet both.is) list c.search-all.result stands in
+      let few = (program_valid file sheet both.is).few_abducibles in
+      let most = lines both.papers.program.abducibles (abducibles_below file sheet both.is) few in
+      subst (λ (l : List ℕ). length (found_lines l (take c.search-all.result.reached.at.found list)) ≤ 95 * length list) there most
 
 -- ---- once the heading is written
 
@@ -110,14 +110,14 @@ part-write-found-lines-start c = search rules
 part-write-found-lines-end : tie.Need-slice-bounds-write-found-lines-end
 part-write-found-lines-end c =
     let s = searched c.before.before.before.before.before in
-    let t = listed-within (file s) (sheet s) (both s).is (both s).told (bytes s) in
+    let t = listed_within (file s) (sheet s) (both s).is (both s).told (bytes s) in
     omega arith
 
 write-found-lines-requires : tie.Need-write-found-lines-requires
 write-found-lines-requires c κs =
     let heading = c.before.before.before.before.before.before in
     let s = searched heading in
-    let few = few-found (problemFor (readPapers (file s) (sheet s))) (list s) s.search-all.result s.search-all.ensures.0 in
+    let few = few_found (problem_for (read_papers (file s) (sheet s))) (list s) s.search-all.result s.search-all.ensures.0 in
     let size = long s in
     let most = sixteen (start s) in
     let l = length-take (12 + 2 * (start s).args.contents.abducibles - 12) (drop 12 (file s)) in
@@ -143,21 +143,21 @@ returns c =
     let s = searched heading in
     let told = (both s).told in
     let is = (both s).is in
-    let atoms = atoms-told (file s) (sheet s) is told in
-    let abducibles = listed-are (file s) (sheet s) is told in
+    let atoms = atoms_told (file s) (sheet s) is told in
+    let abducibles = listed_are (file s) (sheet s) is told in
     let total = sym (counted s).scenario-count.ensures in
     let text =
-    text-put is s.search-all.ensures.0 s.search-all.ensures.1 atoms abducibles total (there s)
+    text_put is s.search-all.ensures.0 s.search-all.ensures.1 atoms abducibles total (there s)
     heading.write-heading.ensures.0 found.write-found-lines.ensures.0 ended.write-last.ensures.0 in
     let lines = lines_long s in
     let size = long s in
     let p = found.write-found-lines.ensures.0.place in
     let x = heading.write-heading.ensures.1 in
     let y = ended.write-last.ensures.1 in
-    (rw (text-is is (start s).pre.1.1) at text, omega arith)
+    (rw (text_is is (start s).pre.1.1) at text, omega arith)
 
-pub write-accepted-spec : {M : Type 1} → statement M
-write-accepted-spec =
+pub write_accepted_spec : {M : Type 1} → statement M
+write_accepted_spec =
     tie.close
     (tie.spec
     scenario-count-requires

@@ -5,16 +5,16 @@ use Prim.Native.Nat.{◌+◌, ◌-◌, ◌*◌, ◌≤◌}
 use native.Mathlib.Omega.{arith}
 use lib.ListN.{length, get_or, take, drop}
 use Rattle.papers.specs.Field.{numbers}
-use Rattle.found_lines.specs.FoundLine.{foundLine}
-use Rattle.decimals.proofs.Putting.{Left, left-all, left_after, left-none}
-use Rattle.printout.specs.Output.{foundLines}
+use Rattle.found_lines.specs.FoundLine.{found_line}
+use Rattle.decimals.proofs.Putting.{Left, left_all, left_after, left_none}
+use Rattle.printout.specs.Output.{found_lines}
 use Rattle.printout.proofs.TextLaws.{lines_none, lines_next}
 use Rattle.printout.proofs.write_found_lines.Statement.{statement}
 use Rattle.printout.proofs.write_found_lines.Tie as tie
 
 abbrev invariant-loop : tie.invariant-loop
 invariant-loop out₀ at list found abducibles end₀ i₀ out end i =
-    Left at (foundLines (numbers abducibles) (take found list)) out₀ end (foundLines (numbers abducibles) (drop i (take found list))) out
+    Left at (found_lines (numbers abducibles) (take found list)) out₀ end (found_lines (numbers abducibles) (drop i (take found list))) out
     × ((i ≤ found) × ((end ≤ at + 512 * i) × (length out ≡ length out₀)))
 
 abbrev decreases-loop : tie.decreases-loop
@@ -23,7 +23,7 @@ decreases-loop out₀ at list found abducibles end₀ i₀ out end i = found - i
 loop-holds : tie.Need-loop-init invariant-loop decreases-loop
 loop-holds c =
     let a = c.before.before.before.args in
-    (left-all a.at (foundLines (numbers a.abducibles.now) (take a.found a.list.now)) a.out.now, (omega arith, (omega arith, refl)))
+    (left_all a.at (found_lines (numbers a.abducibles.now) (take a.found a.list.now)) a.out.now, (omega arith, (omega arith, refl)))
 
 mul-write-found : tie.Need-overflow-mul-write-found invariant-loop decreases-loop
 mul-write-found c = omega arith
@@ -48,8 +48,8 @@ loop-again c =
     let l = inside.before.loop in
     let put = c.before.before.write-found in
     let abducibles = numbers a.abducibles.now in
-    let one = foundLine (get_or a.list.now l.i 0) abducibles in
-    let others = foundLines abducibles (drop (l.i + 1) (take a.found a.list.now)) in
+    let one = found_line (get_or a.list.now l.i 0) abducibles in
+    let others = found_lines abducibles (drop (l.i + 1) (take a.found a.list.now)) in
     let next = lines_next abducibles l.i a.found a.list.now inside.loop-test.true start.requires.1.0 in (
       left_after one others put.ensures.0 (rw next at l.invariant.0),
       (omega arith, (let p = put.ensures.1 in omega arith, put.auto.0 ∙ l.invariant.1.1.1)),
@@ -63,10 +63,10 @@ returns c =
     let a = c.before.before.before.before.before.args in
     let l = c.before.loop in
     let done = lines_none (numbers a.abducibles.now) l.i a.found a.list.now c.loop-test.false in
-    (left-none (rw done at l.invariant.0), omega arith)
+    (left_none (rw done at l.invariant.0), omega arith)
 
-pub write-found-lines-spec : {M : Type 1} → statement M
-write-found-lines-spec =
+pub write_found_lines_spec : {M : Type 1} → statement M
+write_found_lines_spec =
     tie.close
     (tie.spec
     invariant-loop

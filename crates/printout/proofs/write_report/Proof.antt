@@ -3,10 +3,10 @@
 use mathlib.Core.Path.{◌∙◌}
 use native.Mathlib.Omega.{arith}
 use borrow.Author.Rules.{rules}
-use Rattle.papers.specs.Reading.{readPapers}
-use Rattle.papers.proofs.ReadersGot.{papers-accepted, papers-refused}
-use Rattle.papers.proofs.ToldLaws.{papers-told}
-use Rattle.printout.specs.Output.{deskText}
+use Rattle.papers.specs.Reading.{read_papers}
+use Rattle.papers.proofs.ReadersGot.{papers_accepted, papers_refused}
+use Rattle.papers.proofs.ToldLaws.{papers_told_lem}
+use Rattle.printout.specs.Output.{desk_text}
 use Rattle.printout.proofs.write_report.Statement.{statement}
 use Rattle.printout.proofs.write_report.Tie as tie
 
@@ -35,14 +35,14 @@ same_length : tie.Need-same-length
 same_length c = search rules
 
 returns-2 : tie.Need-returns-2
-unfolding deskText
+unfolding desk_text
 returns-2 c =
     let refused = c.before.before.before.before.before in
     let other = refused.before.before.before in
     let read = other.before.before in
     let a = read.before.before.before.before.before.before.args in
-    let told = papers-told _ read.read-papers.ensures in
-    let e = papers-refused (readPapers a.file.now a.sheet.now) told (other.read2.given.1 ∙ refused.read3.given.1) in
+    let told = papers_told_lem _ read.read-papers.ensures in
+    let e = papers_refused (read_papers a.file.now a.sheet.now) told (other.read2.given.1 ∙ refused.read3.given.1) in
     let put = c.before.before.write-refused.ensures in
     (rw e put.0, let m = put.1 in omega arith)
 
@@ -51,8 +51,8 @@ write-accepted-requires c κs =
     let accepted = c.before.before.before.before in
     let read = accepted.before.before in
     let start = read.before.before.before.before.before.before in
-    let told = papers-told _ read.read-papers.ensures in
-    let q = papers-accepted (readPapers start.args.file.now start.args.sheet.now) told accepted.read.given.1 in
+    let told = papers_told_lem _ read.read-papers.ensures in
+    let q = papers_accepted (read_papers start.args.file.now start.args.sheet.now) told accepted.read.given.1 in
     (record { papers = q.papers; is = q.is; told = q.told }, (start.requires.0, start.requires.1))
 
 same-length-2 : tie.Need-same-length-2
@@ -67,8 +67,8 @@ same-length-4 c = search rules
 returns-3 : tie.Need-returns-3
 returns-3 c = c.before.before.before.before.before.before.write-accepted.ensures
 
-pub write-report-spec : {M : Type 1} → statement M
-write-report-spec =
+pub write_report_spec : {M : Type 1} → statement M
+write_report_spec =
     tie.close
     (tie.spec
     read-papers-requires

@@ -6,10 +6,10 @@ use Prim.Native.Nat.{ℕ, ◌≤◌}
 use native.Mathlib.Omega.{arith}
 use lib.ListN.{length}
 use Rattle.papers.specs.Outcome.{accepted}
-use Rattle.papers.specs.Reading.{readEdition, readAtoms, readAbducibles}
-use Rattle.papers.proofs.ReadersGot.{Listed, number-accepted, number-refused, count-accepted, count-refused}
-use Rattle.papers.proofs.WholePapers.{file-edition, edition-within, file-atoms, atoms-within, file-abducibles, listed-are, file-rules}
-use Rattle.papers.proofs.ToldLaws.{file-tells}
+use Rattle.papers.specs.Reading.{read_edition, read_atoms, read_abducibles}
+use Rattle.papers.proofs.ReadersGot.{Listed, number_accepted, number_refused, count_accepted, count_refused}
+use Rattle.papers.proofs.WholePapers.{file_edition, edition_within, file_atoms, atoms_within, file_abducibles, listed_are, file_rules}
+use Rattle.papers.proofs.ToldLaws.{file_tells}
 use borrow.Author.Rules.{rules}
 use Rattle.reading.proofs.read_file.Statement.{statement}
 use Rattle.reading.proofs.read_file.Tie as tie
@@ -23,8 +23,8 @@ module _ (c : tie.After-enum-told) where
   abbrev file : List ℕ
   file = start.args.file.now
 
-  edition-read : readEdition file ≡ accepted c.enum_told.given.0.0
-  edition-read = number-accepted _ c.before.before.read-edition.ensures c.enum_told.given.1
+  edition_read : read_edition file ≡ accepted c.enum_told.given.0.0
+  edition_read = number_accepted _ c.before.before.read-edition.ensures c.enum_told.given.1
 
 -- ---- once the atoms are read
 
@@ -35,11 +35,11 @@ module _ (c : tie.After-known-told3) where
   abbrev atoms : ℕ
   atoms = c.before.counted.given.0.0
 
-  atoms-read : readAtoms (file opened) ≡ accepted atoms
-  atoms-read = number-accepted _ c.before.before.before.read-atoms.ensures c.before.counted.given.1
+  atoms_read : read_atoms (file opened) ≡ accepted atoms
+  atoms_read = number_accepted _ c.before.before.before.read-atoms.ensures c.before.counted.given.1
 
   within : (9 ≤ length (file opened)) × (atoms ≤ 256)
-  within = atoms-within (file opened) (edition-read opened) atoms-read
+  within = atoms_within (file opened) (edition_read opened) atoms_read
 
 -- ---- once the abducibles are read
 
@@ -47,8 +47,8 @@ module _ (c : tie.After-known-told6) where
   abbrev counted : tie.After-known-told3
   counted = c.before.before.before.before
 
-  listed : Listed (readAbducibles (atoms counted) (file (opened counted))) c.before.listed.given.0.0
-  listed = count-accepted _ c.before.before.before.read-abducibles.ensures c.before.listed.given.1
+  listed : Listed (read_abducibles (atoms counted) (file (opened counted))) c.before.listed.given.0.0
+  listed = count_accepted _ c.before.before.before.read-abducibles.ensures c.before.listed.given.1
 
 read-edition-requires : tie.Need-read-edition-requires
 read-edition-requires c κs = search rules
@@ -75,12 +75,12 @@ returns-2 : tie.Need-returns-2
 returns-2 c =
     let other = c.before.before.before.before in
     let asked = other.before.before in
-    file-tells _
-    (file-edition asked.before.before.args.file.now
-    (number-refused _ asked.read-edition.ensures (other.edition.given.1 ∙ c.before.edition2.given.1)))
+    file_tells _
+    (file_edition asked.before.before.args.file.now
+    (number_refused _ asked.read-edition.ensures (other.edition.given.1 ∙ c.before.edition2.given.1)))
 
 read-atoms-requires : tie.Need-read-atoms-requires
-read-atoms-requires c κs = edition-within (file c) (edition-read c)
+read-atoms-requires c κs = edition_within (file c) (edition_read c)
 
 enum-known-counted : tie.Need-enum-known-counted
 enum-known-counted c = search rules
@@ -105,9 +105,9 @@ returns-4 c =
     let other = c.before.before.before.before in
     let asked = other.before.before in
     let edition = asked.before in
-    file-tells _
-    (file-atoms (file edition) (edition-read edition)
-    (number-refused _ asked.read-atoms.ensures (other.counted2.given.1 ∙ c.before.counted3.given.1)))
+    file_tells _
+    (file_atoms (file edition) (edition_read edition)
+    (number_refused _ asked.read-atoms.ensures (other.counted2.given.1 ∙ c.before.counted3.given.1)))
 
 cast-read-abducibles : tie.Need-overflow-cast-read-abducibles
 cast-read-abducibles c = omega (arith, (within c).1)
@@ -139,9 +139,9 @@ returns-6 c =
     let asked = other.before.before in
     let known = asked.before in
     let edition = opened known in
-    file-tells _
-    (file-abducibles (file edition) (edition-read edition) (atoms-read known)
-    (count-refused _ asked.read-abducibles.ensures (other.listed2.given.1 ∙ c.before.listed3.given.1)))
+    file_tells _
+    (file_abducibles (file edition) (edition_read edition) (atoms_read known)
+    (count_refused _ asked.read-abducibles.ensures (other.listed2.given.1 ∙ c.before.listed3.given.1)))
 
 cast-read-rules : tie.Need-overflow-cast-read-rules
 cast-read-rules c = omega (arith, (within (counted c)).1)
@@ -149,16 +149,16 @@ cast-read-rules c = omega (arith, (within (counted c)).1)
 read-rules-requires : tie.Need-read-rules-requires
 read-rules-requires c κs =
     let edition = opened (counted c) in
-    (listed-are (file edition) (edition-read edition) (atoms-read (counted c)) (listed c)).0
+    (listed_are (file edition) (edition_read edition) (atoms_read (counted c)) (listed c)).0
 
 returns-7 : tie.Need-returns-7
 returns-7 c =
     let known = counted c.before in
     let edition = opened known in
-    file-tells _ (c.read-rules.ensures ∙ file-rules (file edition) (edition-read edition) (atoms-read known) (listed c.before))
+    file_tells _ (c.read-rules.ensures ∙ file_rules (file edition) (edition_read edition) (atoms_read known) (listed c.before))
 
-pub read-file-spec : {M : Type 1} → statement M
-read-file-spec =
+pub read_file_spec : {M : Type 1} → statement M
+read_file_spec =
     tie.close
     (tie.spec
     read-edition-requires

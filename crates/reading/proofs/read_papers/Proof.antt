@@ -3,10 +3,10 @@
 use mathlib.Core.Path.{◌∙◌}
 use mathlib.Core.List.{List}
 use Prim.Native.Nat.{ℕ}
-use Rattle.papers.specs.Reading.{readFile}
-use Rattle.papers.proofs.ReadersGot.{Filed, file-accepted, file-refused, count-accepted, count-refused}
-use Rattle.papers.proofs.WholePapers.{papers-file, papers-sheet, papers-both}
-use Rattle.papers.proofs.ToldLaws.{file-told, papers-tells}
+use Rattle.papers.specs.Reading.{read_file}
+use Rattle.papers.proofs.ReadersGot.{Filed, file_accepted, file_refused, count_accepted, count_refused}
+use Rattle.papers.proofs.WholePapers.{papers_file, papers_sheet, papers_both}
+use Rattle.papers.proofs.ToldLaws.{file_told_lem, papers_tells}
 use borrow.Author.Rules.{rules}
 use Rattle.reading.proofs.read_papers.Statement.{statement}
 use Rattle.reading.proofs.read_papers.Tie as tie
@@ -26,8 +26,8 @@ module _ (c : tie.After-known-told) where
   abbrev sheet : List ℕ
   sheet = start.args.sheet.now
 
-  filed : Filed (readFile file) c.before.program.given.0.0
-  filed = file-accepted _ (file-told _ asked.read-file.ensures) c.before.program.given.1
+  filed : Filed (read_file file) c.before.program.given.0.0
+  filed = file_accepted _ (file_told_lem _ asked.read-file.ensures) c.before.program.given.1
 
 read-file-requires : tie.Need-read-file-requires
 read-file-requires c κs = search rules
@@ -52,9 +52,9 @@ returns-2 c =
     let other = c.before.before.before.before in
     let asked = other.before.before in
     let a = asked.before.before.before.args in
-    papers-tells _
-    (papers-file a.file.now a.sheet.now
-    (file-refused _ (file-told _ asked.read-file.ensures) (other.program2.given.1 ∙ c.before.program3.given.1)))
+    papers_tells _
+    (papers_file a.file.now a.sheet.now
+    (file_refused _ (file_told_lem _ asked.read-file.ensures) (other.program2.given.1 ∙ c.before.program3.given.1)))
 
 read-sheet-requires : tie.Need-read-sheet-requires
 read-sheet-requires c κs = search rules
@@ -79,18 +79,18 @@ returns-4 c =
     let other = c.before.before.before.before in
     let asked = other.before.before in
     let f = asked.before in
-    papers-tells _
-    (papers-sheet (file f) (sheet f) (filed f)
-    (count-refused _ asked.read-sheet.ensures (other.query2.given.1 ∙ c.before.query3.given.1)))
+    papers_tells _
+    (papers_sheet (file f) (sheet f) (filed f)
+    (count_refused _ asked.read-sheet.ensures (other.query2.given.1 ∙ c.before.query3.given.1)))
 
 returns-5 : tie.Need-returns-5
 returns-5 c =
     let asked = c.before.before.before in
     let f = asked.before in
-    papers-tells _ (papers-both (file f) (sheet f) (filed f) (count-accepted _ asked.read-sheet.ensures c.before.query.given.1))
+    papers_tells _ (papers_both (file f) (sheet f) (filed f) (count_accepted _ asked.read-sheet.ensures c.before.query.given.1))
 
-pub read-papers-spec : {M : Type 1} → statement M
-read-papers-spec =
+pub read_papers_spec : {M : Type 1} → statement M
+read_papers_spec =
     tie.close
     (tie.spec
     read-file-requires

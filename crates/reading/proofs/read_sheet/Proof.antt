@@ -8,10 +8,10 @@ use native.Mathlib.Omega.{arith}
 use lib.ListN.{length, take, drop}
 use Rattle.papers.specs.declared.Paper.TheVariants.{Sheet}
 use Rattle.papers.specs.declared.NumberRead.TheVariants.{Number}
-use Rattle.papers.specs.Reading.{readSheet}
-use Rattle.papers.proofs.FieldGot.{Got, got-content, got-refused}
-use Rattle.papers.proofs.ReadersGot.{number-accepted, number-refused}
-use Rattle.papers.proofs.WholePapers.{sheet-fault, sheet-end, sheet-query}
+use Rattle.papers.specs.Reading.{read_sheet}
+use Rattle.papers.proofs.FieldGot.{Got, got_content, got_refused}
+use Rattle.papers.proofs.ReadersGot.{number_accepted, number_refused}
+use Rattle.papers.proofs.WholePapers.{sheet_fault, sheet_end, sheet_query}
 use borrow.Author.Rules.{rules}
 use Rattle.reading.proofs.read_sheet.Statement.{statement}
 use Rattle.reading.proofs.read_sheet.Tie as tie
@@ -35,7 +35,7 @@ module _ (c : tie.After-known-told) where
   end = c.before.got.given.0.1.0
 
   field : Got Sheet 0x06 false 0 sheet from end
-  field = got-content _ _ _ _ _ asked.read-field.ensures _ _ c.before.got.given.1
+  field = got_content _ _ _ _ _ asked.read-field.ensures _ _ c.before.got.given.1
 
   -- It ends where the next one is read.
   ends : end ≡ 3 + length (take (end - from) (drop from sheet))
@@ -60,12 +60,12 @@ returns : tie.Need-returns
 returns c = search rules
 
 returns-2 : tie.Need-returns-2
-unfolding readSheet
+unfolding read_sheet
 returns-2 c =
     let other = c.before.before.before.before in
     let asked = other.before.before in
     let a = asked.before.before.args in
-    rw (got-refused Sheet 0x06 false 0 a.sheet.now asked.read-field.ensures (other.got2.given.1 ∙ c.before.got3.given.1))
+    rw (got_refused Sheet 0x06 false 0 a.sheet.now asked.read-field.ensures (other.got2.given.1 ∙ c.before.got3.given.1))
 
 sub-literals-fault : tie.Need-overflow-sub-literals-fault
 sub-literals-fault c = (field c).ordered
@@ -82,7 +82,7 @@ literals-fault-requires c κs = search rules
 returns-3 : tie.Need-returns-3
 returns-3 c =
     let whole = c.before.before.before in
-    sheet-fault (start whole).args.atoms (sheet whole) _ (field whole).read c.before.literals-fault.ensures c.if1.true
+    sheet_fault (start whole).args.atoms (sheet whole) _ (field whole).read c.before.literals-fault.ensures c.if1.true
 
 read-end-requires : tie.Need-read-end-requires
 read-end-requires c κs = (field c.before.before.before).within
@@ -98,8 +98,8 @@ returns-4 c =
     let tested = c.before.before.before in
     let whole = tested.before.before.before in
     c.enum-told3.given.1
-    ∙ sheet-end (start whole).args.atoms (sheet whole) _ (field whole).read tested.before.literals-fault.ensures tested.if1.false (ends whole)
-    (number-refused _ c.before.before.read-end.ensures c.enum-told3.given.1)
+    ∙ sheet_end (start whole).args.atoms (sheet whole) _ (field whole).read tested.before.literals-fault.ensures tested.if1.false (ends whole)
+    (number_refused _ c.before.before.read-end.ensures c.enum-told3.given.1)
 
 sub-t11 : tie.Need-overflow-sub-t11
 sub-t11 c =
@@ -111,11 +111,11 @@ returns-5 c =
     let tested = c.before.before.before in
     let whole = tested.before.before.before in
     ap (λ (k : ℕ). Number (k / 2)) (sym (field whole).sized)
-    ∙ sheet-query (start whole).args.atoms (sheet whole) _ (field whole).read tested.before.literals-fault.ensures tested.if1.false (ends whole)
-    (number-accepted _ c.before.before.read-end.ensures c.enum-told2.given.1)
+    ∙ sheet_query (start whole).args.atoms (sheet whole) _ (field whole).read tested.before.literals-fault.ensures tested.if1.false (ends whole)
+    (number_accepted _ c.before.before.read-end.ensures c.enum-told2.given.1)
 
-pub read-sheet-spec : {M : Type 1} → statement M
-read-sheet-spec =
+pub read_sheet_spec : {M : Type 1} → statement M
+read_sheet_spec =
     tie.close
     (tie.spec
     read-field-requires

@@ -1,7 +1,7 @@
 -- `report::put_place` meets its contract.
 -- Assumes nothing.
 use native.Mathlib.Omega.{arith}
-use Rattle.report.specs.Lines.{paperWord}
+use Rattle.report.specs.Lines.{paper_word}
 use borrow.Author.Rules.{rules}
 use Rattle.report.proofs.put_place.Statement.{statement}
 use Rattle.report.proofs.put_place.Tie as tie
@@ -28,7 +28,7 @@ same_length : tie.Need-same-length
 same_length c = search rules
 
 returns : tie.Need-returns
-unfolding paperWord
+unfolding paper_word
 returns c =
     let put = c.before.before.put-number in
     rw c.before.before.before.before.before.enum_told.given.1 (put.ensures.0, let p = put.ensures.1 in omega arith)
@@ -37,13 +37,13 @@ same-length-2 : tie.Need-same-length-2
 same-length-2 c = search rules
 
 returns-2 : tie.Need-returns-2
-unfolding paperWord
+unfolding paper_word
 returns-2 c =
     let put = c.before.before.put-number2 in
     rw c.before.before.before.before.before.enum-told2.given.1 (put.ensures.0, let p = put.ensures.1 in omega arith)
 
-pub put-place-spec : {M : Type 1} → statement M
-put-place-spec =
+pub put_place_spec : {M : Type 1} → statement M
+put_place_spec =
     tie.close
     (tie.spec
     enum_told

@@ -1,7 +1,7 @@
 -- `report::put_state` meets its contract.
 -- Assumes nothing.
 use native.Mathlib.Omega.{arith}
-use Rattle.report.specs.Lines.{stateWord}
+use Rattle.report.specs.Lines.{state_word}
 use borrow.Author.Rules.{rules}
 use Rattle.report.proofs.put_state.Statement.{statement}
 use Rattle.report.proofs.put_state.Tie as tie
@@ -37,7 +37,7 @@ same_length : tie.Need-same-length
 same_length c = search rules
 
 returns : tie.Need-returns
-unfolding stateWord
+unfolding state_word
 returns c =
     let put = c.before.before.put-text in
     rw c.before.before.before.before.before.enum_told.given.1 (put.ensures, let p = put.ensures.place in omega arith)
@@ -46,7 +46,7 @@ same-length-2 : tie.Need-same-length-2
 same-length-2 c = search rules
 
 returns-2 : tie.Need-returns-2
-unfolding stateWord
+unfolding state_word
 returns-2 c =
     let put = c.before.before.put-text2 in
     rw c.before.before.before.before.before.enum-told2.given.1 (put.ensures, let p = put.ensures.place in omega arith)
@@ -55,13 +55,13 @@ same-length-3 : tie.Need-same-length-3
 same-length-3 c = search rules
 
 returns-3 : tie.Need-returns-3
-unfolding stateWord
+unfolding state_word
 returns-3 c =
     let put = c.before.before.put-text3 in
     rw c.before.before.before.before.before.enum-told3.given.1 (put.ensures, let p = put.ensures.place in omega arith)
 
-pub put-state-spec : {M : Type 1} → statement M
-put-state-spec =
+pub put_state_spec : {M : Type 1} → statement M
+put_state_spec =
     tie.close
     (tie.spec
     enum_told

@@ -4,8 +4,8 @@ use mathlib.Core.List.{[], ◌∷◌, ◌++◌}
 use native.Mathlib.Omega.{arith}
 use borrow.Author.Rules.{rules}
 use Rattle.decimals.specs.Decimal.{decimal}
-use Rattle.report.specs.Lines.{headingLine, atomsWord, abduciblesWord, scenariosWord}
-use Rattle.decimals.proofs.Putting.{further, left-line, left_after, left-none}
+use Rattle.report.specs.Lines.{heading_line, atoms_word, abducibles_word, scenarios_word}
+use Rattle.decimals.proofs.Putting.{further, left_line, left_after, left_none}
 use Rattle.report.proofs.write_heading.Statement.{statement}
 use Rattle.report.proofs.write_heading.Tie as tie
 
@@ -34,7 +34,7 @@ same_length : tie.Need-same-length
 same_length c = search rules
 
 returns : tie.Need-returns
-unfolding headingLine further
+unfolding heading_line further
 returns c =
     let ended = c.before.before in
     let scenarios = ended.before.before.before.before in
@@ -44,14 +44,14 @@ returns c =
     let n = decimal a.atoms in
     let k = decimal a.abducibles in
     let s = decimal a.scenarios in
-    let l = left-line a.at atomsWord (n ∷ abduciblesWord ∷ k ∷ scenariosWord ∷ s ∷ []) a.buffer.now in
-    let m = left_after (atomsWord ++ 32 ∷ n) (further (abduciblesWord ∷ k ∷ scenariosWord ∷ s ∷ [])) atoms.put-number.ensures.0 l in
-    let o = left_after (32 ∷ abduciblesWord ++ 32 ∷ k) (further (scenariosWord ∷ s ∷ [])) abducibles.put-number2.ensures.0 m in
-    let p = left_after (32 ∷ scenariosWord ++ 32 ∷ s) (further []) scenarios.put-number3.ensures.0 o in
-    (left-none (left_after (10 ∷ []) [] ended.put_byte.ensures p), omega arith)
+    let l = left_line a.at atoms_word (n ∷ abducibles_word ∷ k ∷ scenarios_word ∷ s ∷ []) a.buffer.now in
+    let m = left_after (atoms_word ++ 32 ∷ n) (further (abducibles_word ∷ k ∷ scenarios_word ∷ s ∷ [])) atoms.put-number.ensures.0 l in
+    let o = left_after (32 ∷ abducibles_word ++ 32 ∷ k) (further (scenarios_word ∷ s ∷ [])) abducibles.put-number2.ensures.0 m in
+    let p = left_after (32 ∷ scenarios_word ++ 32 ∷ s) (further []) scenarios.put-number3.ensures.0 o in
+    (left_none (left_after (10 ∷ []) [] ended.put_byte.ensures p), omega arith)
 
-pub write-heading-spec : {M : Type 1} → statement M
-write-heading-spec =
+pub write_heading_spec : {M : Type 1} → statement M
+write_heading_spec =
     tie.close
     (tie.spec
     slice-aggregate-put-number

@@ -4,8 +4,8 @@ use mathlib.Core.List.{[], ◌∷◌, ◌++◌}
 use native.Mathlib.Omega.{arith}
 use borrow.Author.Rules.{rules}
 use Rattle.decimals.specs.Decimal.{decimal}
-use Rattle.report.specs.Lines.{lastLine, stateWord, triedWord, roundsWord}
-use Rattle.decimals.proofs.Putting.{further, left-line, left_after, left-none}
+use Rattle.report.specs.Lines.{last_line, state_word, tried_word, rounds_word}
+use Rattle.decimals.proofs.Putting.{further, left_line, left_after, left_none}
 use Rattle.report.proofs.write_last.Statement.{statement}
 use Rattle.report.proofs.write_last.Tie as tie
 
@@ -31,7 +31,7 @@ same_length : tie.Need-same-length
 same_length c = search rules
 
 returns : tie.Need-returns
-unfolding lastLine further
+unfolding last_line further
 returns c =
     let ended = c.before.before in
     let rounds = ended.before.before.before.before in
@@ -40,14 +40,14 @@ returns c =
     let a = stated.before.before.before.args in
     let t = decimal a.tried in
     let r = decimal a.rounds in
-    let l = left-line a.at (stateWord a.state) (triedWord ∷ t ∷ roundsWord ∷ r ∷ []) a.buffer.now in
-    let m = left_after (stateWord a.state) (further (triedWord ∷ t ∷ roundsWord ∷ r ∷ [])) stated.put-state.ensures.0 l in
-    let o = left_after (32 ∷ triedWord ++ 32 ∷ t) (further (roundsWord ∷ r ∷ [])) tried.put-number.ensures.0 m in
-    let p = left_after (32 ∷ roundsWord ++ 32 ∷ r) (further []) rounds.put-number2.ensures.0 o in
-    (left-none (left_after (10 ∷ []) [] ended.put_byte.ensures p), omega arith)
+    let l = left_line a.at (state_word a.state) (tried_word ∷ t ∷ rounds_word ∷ r ∷ []) a.buffer.now in
+    let m = left_after (state_word a.state) (further (tried_word ∷ t ∷ rounds_word ∷ r ∷ [])) stated.put-state.ensures.0 l in
+    let o = left_after (32 ∷ tried_word ++ 32 ∷ t) (further (rounds_word ∷ r ∷ [])) tried.put-number.ensures.0 m in
+    let p = left_after (32 ∷ rounds_word ++ 32 ∷ r) (further []) rounds.put-number2.ensures.0 o in
+    (left_none (left_after (10 ∷ []) [] ended.put_byte.ensures p), omega arith)
 
-pub write-last-spec : {M : Type 1} → statement M
-write-last-spec =
+pub write_last_spec : {M : Type 1} → statement M
+write_last_spec =
     tie.close
     (tie.spec
     put-state-requires

@@ -5,8 +5,8 @@ use native.Mathlib.Omega.{arith}
 use borrow.Author.Rules.{rules}
 use Rattle.decimals.specs.Decimal.{decimal}
 use Rattle.decimals.specs.Text.{spaced}
-use Rattle.report.specs.Lines.{refusedLine, refusedWord, paperWord}
-use Rattle.decimals.proofs.Putting.{put-line}
+use Rattle.report.specs.Lines.{refused_line, refused_word, paper_word}
+use Rattle.decimals.proofs.Putting.{put_line}
 use Rattle.report.proofs.write_refused.Statement.{statement}
 use Rattle.report.proofs.write_refused.Tie as tie
 
@@ -29,19 +29,19 @@ same_length : tie.Need-same-length
 same_length c = search rules
 
 returns : tie.Need-returns
-unfolding refusedLine spaced
+unfolding refused_line spaced
 returns c =
     let ended = c.before.before in
     let placed = ended.before.before.before.before in
     let numbered = placed.before.before.before.before in
     let a = numbered.before.before.before.before.before.args in
-    let paper = paperWord a.refusal.paper in
+    let paper = paper_word a.refusal.paper in
     let place = decimal a.refusal.place in
-    let put = put-line refusedWord (decimal a.refusal.number) (paper ∷ place ∷ []) in
+    let put = put_line refused_word (decimal a.refusal.number) (paper ∷ place ∷ []) in
     (put numbered.put-number.ensures.0 (rw (append-nil place) placed.put-place.ensures.0) ended.put_byte.ensures, omega arith)
 
-pub write-refused-spec : {M : Type 1} → statement M
-write-refused-spec =
+pub write_refused_spec : {M : Type 1} → statement M
+write_refused_spec =
     tie.close
     (tie.spec
     cast-number

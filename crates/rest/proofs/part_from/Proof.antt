@@ -37,8 +37,8 @@ returns-2 c =
     let past = c.before.if1.false in
     (to_end (length l) l ∙ drop-length l ∙ sym (drop_of_length-le l (le_of_lt past)), λ h. absurd (omega arith))
 
-pub part-from-spec : {M : Type 1} → statement M
-part-from-spec =
+pub part_from_spec : {M : Type 1} → statement M
+part_from_spec =
     tie.close
     (tie.spec
     sub-result

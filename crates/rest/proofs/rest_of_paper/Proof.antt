@@ -5,11 +5,11 @@ use mathlib.Core.List.{List}
 use Prim.Native.Nat.{ℕ}
 use native.Mathlib.Omega.{arith}
 use lib.Seq.{drop-length}
-use Rattle.papers.specs.Reading.{readPapers}
-use Rattle.papers.specs.Answers.{papersAnswer}
-use Rattle.papers.proofs.ReadersGot.{papers-accepted, papers-refused}
-use Rattle.papers.proofs.Placed.{refused-within}
-use Rattle.papers.proofs.ToldLaws.{papers-told}
+use Rattle.papers.specs.Reading.{read_papers}
+use Rattle.papers.specs.Answers.{papers_answer}
+use Rattle.papers.proofs.ReadersGot.{papers_accepted, papers_refused}
+use Rattle.papers.proofs.Placed.{refused_within}
+use Rattle.papers.proofs.ToldLaws.{papers_told_lem}
 use borrow.Author.Rules.{rules}
 use Rattle.rest.proofs.rest_of_paper.Statement.{statement}
 use Rattle.rest.proofs.rest_of_paper.Tie as tie
@@ -26,8 +26,8 @@ module _ (c : tie.After-read-papers) where
   abbrev sheet : List ℕ
   sheet = start.args.sheet.now
 
-  told : c.read-papers.result ≡ papersAnswer (readPapers file sheet)
-  told = papers-told _ c.read-papers.ensures
+  told : c.read-papers.result ≡ papers_answer (read_papers file sheet)
+  told = papers_told_lem _ c.read-papers.ensures
 
 read-papers-requires : tie.Need-read-papers-requires
 read-papers-requires c κs = search rules
@@ -44,7 +44,7 @@ part-from-requires c κs = search rules
 returns : tie.Need-returns
 returns c =
     let read = c.before.before.before in
-    let q = papers-accepted (readPapers (file read) (sheet read)) (told read) c.before.enum_told.given.1 in
+    let q = papers_accepted (read_papers (file read) (sheet read)) (told read) c.before.enum_told.given.1 in
     rw q.is (c.part-from.ensures.0 ∙ drop-length (sheet read), c.part-from.ensures.1 (omega arith))
 
 enum-told-2 : tie.Need-enum-told-2
@@ -63,22 +63,22 @@ returns-2 : tie.Need-returns-2
 returns-2 c =
     let refused = c.before.before.before.before in
     let read = refused.before.before in
-    let e = papers-refused (readPapers (file read) (sheet read)) (told read) refused.read.given.1 in
+    let e = papers_refused (read_papers (file read) (sheet read)) (told read) refused.read.given.1 in
     let paper = c.before.enum-told2.given.1 in
-    let within = rw paper at (refused-within (file read) (sheet read) _ e) in
+    let within = rw paper at (refused_within (file read) (sheet read) _ e) in
     rw (e, paper) (c.part-from2.ensures.0, c.part-from2.ensures.1 within)
 
 returns-3 : tie.Need-returns-3
 returns-3 c =
     let refused = c.before.before.before.before in
     let read = refused.before.before in
-    let e = papers-refused (readPapers (file read) (sheet read)) (told read) refused.read.given.1 in
+    let e = papers_refused (read_papers (file read) (sheet read)) (told read) refused.read.given.1 in
     let paper = c.before.enum-told3.given.1 in
-    let within = rw paper at (refused-within (file read) (sheet read) _ e) in
+    let within = rw paper at (refused_within (file read) (sheet read) _ e) in
     rw (e, paper) (c.part-from3.ensures.0, c.part-from3.ensures.1 within)
 
-pub rest-of-paper-spec : {M : Type 1} → statement M
-rest-of-paper-spec =
+pub rest_of_paper_spec : {M : Type 1} → statement M
+rest_of_paper_spec =
     tie.close
     (tie.spec
     read-papers-requires

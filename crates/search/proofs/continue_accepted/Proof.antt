@@ -6,17 +6,17 @@ use Prim.Native.Nat.{◌≤◌}
 use native.Mathlib.Omega.{arith}
 use borrow.Author.Rules.{rules}
 use Rattle.papers.specs.Outcome.{accepted}
-use Rattle.papers.specs.Reading.{Papers, readFile, readPapers, programIn}
-use Rattle.papers.proofs.FileFacts.{told, program-valid}
+use Rattle.papers.specs.Reading.{Papers, read_file, read_papers, program_in}
+use Rattle.papers.proofs.FileFacts.{told, program_valid}
 use Rattle.papers.proofs.BothAccepted.{BothTold, both_told}
-use Rattle.dual_writer.proofs.BothPapers.{papersIn, both_read, both-asked, few-abducibles, few-literals, scenarios-are}
-use Rattle.dual_writer.proofs.BothPapers.{other-told, dual-fits, dual-short, dual-stays, dual-kept, dual-filled}
+use Rattle.dual_writer.proofs.BothPapers.{papers_in, both_read, both_asked, few_abducibles_lem, few_literals, scenarios_are}
+use Rattle.dual_writer.proofs.BothPapers.{other_told, dual_fits, dual_short, dual_stays, dual_kept, dual_filled}
 use Rattle.rows.specs.DualBytes.{DualStarts}
-use Rattle.rows.proofs.EntryBytes.{filled-starts}
-use Rattle.held.specs.HeldCalls.{spoiltSearch}
-use Rattle.held.proofs.SearchTests.{unspoilt-record}
-use Rattle.trying.specs.Trying.{problemOf}
-use Rattle.search.proofs.ContinueLaws.{spoilt-is, answers-short, answers-spoilt, answers-report}
+use Rattle.rows.proofs.EntryBytes.{filled_starts}
+use Rattle.held.specs.HeldCalls.{spoilt_search}
+use Rattle.held.proofs.SearchTests.{unspoilt_record}
+use Rattle.trying.specs.Trying.{problem_of}
+use Rattle.search.proofs.ContinueLaws.{spoilt_is, answers_short, answers_spoilt, answers_report}
 use Rattle.search.proofs.continue_accepted.Statement.{statement}
 use Rattle.search.proofs.continue_accepted.Tie as tie
 
@@ -24,7 +24,7 @@ both : (c : tie.Start) → BothTold c.args.file.now c.args.sheet.now c.args.cont
 both c = both_told c.args.file.now c.args.sheet.now _ _ c.requires
 
 few : (c : tie.Start) → c.args.literals ≤ 16
-few c = few-literals (both c) c.requires
+few c = few_literals (both c) c.requires
 
 -- ---- once the dual is written
 
@@ -39,22 +39,22 @@ module _ (c : tie.After-write-accepted) where
   start = counted.before.before.before.before.before
 
   abbrev papers : Papers
-  papers = papersIn start.args.file.now start.args.sheet.now start.args.literals
+  papers = papers_in start.args.file.now start.args.sheet.now start.args.literals
 
-  read : readPapers start.args.file.now start.args.sheet.now ≡ accepted papers
+  read : read_papers start.args.file.now start.args.sheet.now ≡ accepted papers
   read = both_read (both start) (λ i. (counted.before.before.before.shared-slice-known2.given i).fits)
 
-  program : readFile start.args.file.now ≡ accepted papers.program
+  program : read_file start.args.file.now ≡ accepted papers.program
   program = (told start.args.file.now _ (both start).answer).is
 
-  spoilt-told : spoiltSearch (problemOf papers) start.args.from start.args.list.now ≡ tested.is-spoilt-search.result
-  spoilt-told = spoilt-is (both start) counted.scenario-count.ensures start.args.from start.args.list.now tested.is-spoilt-search.ensures
+  spoilt_told : spoilt_search (problem_of papers) start.args.from start.args.list.now ≡ tested.is-spoilt-search.result
+  spoilt_told = spoilt_is (both start) counted.scenario-count.ensures start.args.from start.args.list.now tested.is-spoilt-search.ensures
 
 scenario-count-requires : tie.Need-scenario-count-requires
-scenario-count-requires c κs = few-abducibles (both c.before.before.before.before)
+scenario-count-requires c κs = few_abducibles_lem (both c.before.before.before.before)
 
 is-spoilt-search-requires : tie.Need-is-spoilt-search-requires
-is-spoilt-search-requires c κs = few-abducibles (both c.before.before.before.before.before.before)
+is-spoilt-search-requires c κs = few_abducibles_lem (both c.before.before.before.before.before.before)
 
 fold-places-requires : tie.Need-fold-places-requires
 fold-places-requires c κs = (both c.before.before.before.before.before.before.before).answer
@@ -76,9 +76,9 @@ returns c =
     let w = c.before.before.before in
     let a = (start w).args in
     let ensured = w.write-accepted.ensures in
-    let short = dual-short (program w) a.dual.now ensured.0 (other-told w.write-accepted.result c.match.keys2) in
-    answers-short (papers w) (read w) a.allowance a.dual.now a.from a.list.now short
-    (dual-stays (program w) (not (tested w).is-spoilt-search.result) a.dual.now ensured.1 short)
+    let short = dual_short (program w) a.dual.now ensured.0 (other_told w.write-accepted.result c.match.keys2) in
+    answers_short (papers w) (read w) a.allowance a.dual.now a.from a.list.now short
+    (dual_stays (program w) (not (tested w).is-spoilt-search.result) a.dual.now ensured.1 short)
 
 same-length-3 : tie.Need-same-length-3
 same-length-3 c = search rules
@@ -91,9 +91,9 @@ returns-2 c =
     let w = c.before.before.before.before.before in
     let a = (start w).args in
     let ensured = w.write-accepted.ensures in
-    answers-spoilt (papers w) (read w) a.allowance a.dual.now a.from a.list.now
-    (dual-fits (program w) a.dual.now ensured.0 c.before.enum_told.given.1) (spoilt-told w ∙ c.if1.true)
-    (dual-kept (program w) (not (tested w).is-spoilt-search.result) a.dual.now ensured.1 (ap not c.if1.true))
+    answers_spoilt (papers w) (read w) a.allowance a.dual.now a.from a.list.now
+    (dual_fits (program w) a.dual.now ensured.0 c.before.enum_told.given.1) (spoilt_told w ∙ c.if1.true)
+    (dual_kept (program w) (not (tested w).is-spoilt-search.result) a.dual.now ensured.1 (ap not c.if1.true))
 
 mul-end : tie.Need-overflow-mul-end
 mul-end c = let f = few (start c.before.before.before.before.before) in omega arith
@@ -114,19 +114,19 @@ search-accepted-requires : tie.Need-search-accepted-requires
 search-accepted-requires c κs =
     let w = c.before.before.before.before.before.before.before.before.before in
     let a = (start w).args in
-    let p = programIn a.file.now in
+    let p = program_in a.file.now in
     let ensured = w.write-accepted.ensures in
     let unspoilt = c.before.before.before.before.if1.false in
-    let fits = dual-fits (program w) a.dual.now ensured.0 c.before.before.before.before.before.enum_told.given.1 in
-    let filled = dual-filled (program w) (not (tested w).is-spoilt-search.result) a.dual.now ensured.1 (ap not unspoilt) fits in
+    let fits = dual_fits (program w) a.dual.now ensured.0 c.before.before.before.before.before.enum_told.given.1 in
+    let filled = dual_filled (program w) (not (tested w).is-spoilt-search.result) a.dual.now ensured.1 (ap not unspoilt) fits in
     record {
       prepared = record {
         walked = w.before.before.before.fold-places.ensures;
-        starts = subst (DualStarts p) (sym filled) (filled-starts p (program-valid a.file.now _ (both (start w)).answer) a.dual.now);
-        asked = both-asked (both (start w)) (λ i. ((counted w).before.before.before.shared-slice-known2.given i).fits);
+        starts = subst (DualStarts p) (sym filled) (filled_starts p (program_valid a.file.now _ (both (start w)).answer) a.dual.now);
+        asked = both_asked (both (start w)) (λ i. ((counted w).before.before.before.shared-slice-known2.given i).fits);
       };
-      scenarios = scenarios-are (both (start w)) (counted w).scenario-count.ensures;
-      unspoilt = unspoilt-record _ _ _ _ (sym (tested w).is-spoilt-search.ensures ∙ unspoilt);
+      scenarios = scenarios_are (both (start w)) (counted w).scenario-count.ensures;
+      unspoilt = unspoilt_record _ _ _ _ (sym (tested w).is-spoilt-search.ensures ∙ unspoilt);
     }
 
 same-length-5 : tie.Need-same-length-5
@@ -142,13 +142,13 @@ returns-3 c =
     let a = (start w).args in
     let ensured = w.write-accepted.ensures in
     let unspoilt = c.before.before.before.before.before.before.before.if1.false in
-    let fits = dual-fits (program w) a.dual.now ensured.0 c.before.before.before.before.before.before.before.before.enum_told.given.1 in
-    answers-report (papers w) (read w) a.allowance a.dual.now a.from a.list.now fits (spoilt-told w ∙ unspoilt)
-    (dual-filled (program w) (not (tested w).is-spoilt-search.result) a.dual.now ensured.1 (ap not unspoilt) fits)
+    let fits = dual_fits (program w) a.dual.now ensured.0 c.before.before.before.before.before.before.before.before.enum_told.given.1 in
+    answers_report (papers w) (read w) a.allowance a.dual.now a.from a.list.now fits (spoilt_told w ∙ unspoilt)
+    (dual_filled (program w) (not (tested w).is-spoilt-search.result) a.dual.now ensured.1 (ap not unspoilt) fits)
     searched
 
-pub continue-accepted-spec : {M : Type 1} → statement M
-continue-accepted-spec =
+pub continue_accepted_spec : {M : Type 1} → statement M
+continue_accepted_spec =
     tie.close
     (tie.spec
     scenario-count-requires

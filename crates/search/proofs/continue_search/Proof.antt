@@ -4,10 +4,10 @@ use mathlib.Core.Path.{◌≡◌, sym, ◌∙◌}
 use Prim.Native.Nat.{ℕ}
 use native.Mathlib.Omega.{arith}
 use borrow.Author.Rules.{rules}
-use Rattle.papers.specs.Reading.{readPapers}
-use Rattle.papers.proofs.ReadersGot.{papers-refused}
-use Rattle.papers.proofs.ToldLaws.{papers-told}
-use Rattle.search.proofs.ContinueLaws.{answers-refused}
+use Rattle.papers.specs.Reading.{read_papers}
+use Rattle.papers.proofs.ReadersGot.{papers_refused}
+use Rattle.papers.proofs.ToldLaws.{papers_told_lem}
+use Rattle.search.proofs.ContinueLaws.{answers_refused}
 use Rattle.search.proofs.continue_search.Statement.{statement}
 use Rattle.search.proofs.continue_search.Tie as tie
 
@@ -34,14 +34,14 @@ returns-2 c =
     let other = c.before.before.before.before in
     let asked = other.before.before in
     let a = asked.before.before.before.before.before.args in
-    let told = papers-told _ asked.read-papers.ensures in
-    answers-refused (papers-refused (readPapers a.file.now a.sheet.now) told (other.read2.given.1 ∙ c.before.read3.given.1))
+    let told = papers_told_lem _ asked.read-papers.ensures in
+    answers_refused (papers_refused (read_papers a.file.now a.sheet.now) told (other.read2.given.1 ∙ c.before.read3.given.1))
     a.allowance a.dual.now a.from a.list.now
 
 continue-accepted-requires : tie.Need-continue-accepted-requires
 continue-accepted-requires c κs =
     let accepted = c.before.before.before in
-    sym (papers-told _ accepted.before.before.read-papers.ensures) ∙ accepted.read.given.1
+    sym (papers_told_lem _ accepted.before.before.read-papers.ensures) ∙ accepted.read.given.1
 
 same_length : tie.Need-same-length
 same_length c = search rules
@@ -52,8 +52,8 @@ same-length-2 c = search rules
 returns-3 : tie.Need-returns-3
 returns-3 c = c.before.before.before.before.continue-accepted.ensures
 
-pub continue-search-spec : {M : Type 1} → statement M
-continue-search-spec =
+pub continue_search_spec : {M : Type 1} → statement M
+continue_search_spec =
     tie.close
     (tie.spec
     read-papers-requires

@@ -6,13 +6,13 @@ use Prim.Native.Nat.{ℕ, ◌-◌, ◌≤◌}
 use native.Mathlib.Omega.{arith}
 use lib.ListN.{length, length-set}
 use Rattle.lanes.specs.Lanes.{Written}
-use Rattle.lanes.specs.Words.{sameWord}
-use Rattle.lanes.proofs.LaneLaws.{written_none, written-more}
+use Rattle.lanes.specs.Words.{same_word}
+use Rattle.lanes.proofs.LaneLaws.{written_none, written_more}
 use Rattle.sets.proofs.fill_words.Statement.{statement}
 use Rattle.sets.proofs.fill_words.Tie as tie
 
 abbrev invariant-loop : tie.invariant-loop
-invariant-loop words₀ count word o₀ words o = (o ≤ count) × ((length words ≡ 513) × Written o (sameWord word) words₀ words)
+invariant-loop words₀ count word o₀ words o = (o ≤ count) × ((length words ≡ 513) × Written o (same_word word) words₀ words)
 
 abbrev decreases-loop : tie.decreases-loop
 decreases-loop words₀ count word o₀ words o = count - o
@@ -23,7 +23,7 @@ lent-known-requires c κs = search rules
 loop-holds : tie.Need-loop-init invariant-loop decreases-loop
 loop-holds c =
     let a = c.before.before.args in
-    (omega arith, (c.lent-known.ensures.many, written_none (sameWord a.word) a.words.now))
+    (omega arith, (c.lent-known.ensures.many, written_none (same_word a.word) a.words.now))
 
 mul_words : tie.Need-overflow-mul-words invariant-loop decreases-loop
 mul_words c = search rules
@@ -38,7 +38,7 @@ loop-less : tie.Need-loop-smaller invariant-loop decreases-loop
 loop-less c = search rules
 
 loop-again : tie.Need-loop-preserved invariant-loop decreases-loop
-unfolding sameWord
+unfolding same_word
 loop-again c =
     let l = c.before.loop in
     let s = c.before.before.before.before in
@@ -46,7 +46,7 @@ loop-again c =
       omega arith,
       (
         simp length-set l.invariant.1.0,
-        written-more (sameWord a.word) l.o a.words.now l.words (omega (arith, s.requires, l.invariant.1.0)) l.invariant.1.1,
+        written_more (same_word a.word) l.o a.words.now l.words (omega (arith, s.requires, l.invariant.1.0)) l.invariant.1.1,
       ),
     )
 
@@ -55,10 +55,10 @@ returns c =
     let l = c.before.loop in
     let a = c.before.before.before.before.args in
     let e : l.o ≡ a.count = omega arith in
-    (subst (λ (n : ℕ). Written n (sameWord a.word) a.words.now l.words) e l.invariant.1.1, l.invariant.1.0)
+    (subst (λ (n : ℕ). Written n (same_word a.word) a.words.now l.words) e l.invariant.1.1, l.invariant.1.0)
 
-pub fill-words-spec : {M : Type 1} → statement M
-fill-words-spec =
+pub fill_words_spec : {M : Type 1} → statement M
+fill_words_spec =
     tie.close
     (tie.spec
     invariant-loop

@@ -6,13 +6,13 @@ use Prim.Native.Nat.{ℕ, ◌-◌, ◌≤◌}
 use native.Mathlib.Omega.{arith}
 use lib.ListN.{length, length-set}
 use Rattle.lanes.specs.Lanes.{Written}
-use Rattle.lanes.specs.Words.{joinedWord}
-use Rattle.lanes.proofs.LaneLaws.{written_none, written-more}
+use Rattle.lanes.specs.Words.{joined_word}
+use Rattle.lanes.proofs.LaneLaws.{written_none, written_more}
 use Rattle.sets.proofs.join_words.Statement.{statement}
 use Rattle.sets.proofs.join_words.Tie as tie
 
 abbrev invariant-loop : tie.invariant-loop
-invariant-loop first second count after₀ o₀ after o = (o ≤ count) × ((length after ≡ 513) × Written o (joinedWord first second) after₀ after)
+invariant-loop first second count after₀ o₀ after o = (o ≤ count) × ((length after ≡ 513) × Written o (joined_word first second) after₀ after)
 
 abbrev decreases-loop : tie.decreases-loop
 decreases-loop first second count after₀ o₀ after o = count - o
@@ -23,7 +23,7 @@ lent-known-requires c κs = search rules
 loop-holds : tie.Need-loop-init invariant-loop decreases-loop
 loop-holds c =
     let a = c.before.before.args in
-    (omega arith, (c.lent-known.ensures.many, written_none (joinedWord a.first.now a.second.now) a.after.now))
+    (omega arith, (c.lent-known.ensures.many, written_none (joined_word a.first.now a.second.now) a.after.now))
 
 mul-after : tie.Need-overflow-mul-after invariant-loop decreases-loop
 mul-after c = search rules
@@ -50,7 +50,7 @@ loop-less : tie.Need-loop-smaller invariant-loop decreases-loop
 loop-less c = search rules
 
 loop-again : tie.Need-loop-preserved invariant-loop decreases-loop
-unfolding joinedWord
+unfolding joined_word
 loop-again c =
     let l = c.before.before.before.loop in
     let s = c.before.before.before.before.before.before in
@@ -58,7 +58,7 @@ loop-again c =
       omega arith,
       (
         simp length-set l.invariant.1.0,
-        written-more (joinedWord a.first.now a.second.now) l.o a.after.now l.after (omega (arith, s.requires, l.invariant.1.0)) l.invariant.1.1,
+        written_more (joined_word a.first.now a.second.now) l.o a.after.now l.after (omega (arith, s.requires, l.invariant.1.0)) l.invariant.1.1,
       ),
     )
 
@@ -67,10 +67,10 @@ returns c =
     let l = c.before.loop in
     let a = c.before.before.before.before.args in
     let e : l.o ≡ a.count = omega arith in
-    subst (λ (n : ℕ). Written n (joinedWord a.first.now a.second.now) a.after.now l.after) e l.invariant.1.1
+    subst (λ (n : ℕ). Written n (joined_word a.first.now a.second.now) a.after.now l.after) e l.invariant.1.1
 
-pub join-words-spec : {M : Type 1} → statement M
-join-words-spec =
+pub join_words_spec : {M : Type 1} → statement M
+join_words_spec =
     tie.close
     (tie.spec
     invariant-loop

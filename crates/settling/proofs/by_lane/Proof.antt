@@ -14,5 +14,5 @@ returns c = rw (sym c.before.in_lane.ensures ∙ c.if1.true)
 returns-2 : tie.Need-returns-2
 returns-2 c = rw (sym c.before.in_lane.ensures ∙ c.if1.false)
 
-pub by-lane-spec : {M : Type 1} → statement M
-by-lane-spec = tie.close (tie.spec in-lane-requires returns returns-2)
+pub by_lane_spec : {M : Type 1} → statement M
+by_lane_spec = tie.close (tie.spec in-lane-requires returns returns-2)

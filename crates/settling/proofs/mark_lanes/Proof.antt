@@ -7,13 +7,13 @@ use Prim.Native.Nat.{ℕ, ◌-◌, ◌≤◌, ◌<◌}
 use native.Mathlib.Omega.{arith}
 use lib.ListN.{length, get_or, length-set, length-replicate}
 use Rattle.papers.proofs.Lists.{set_more}
-use Rattle.lanes.specs.Lanes.{inLane}
+use Rattle.lanes.specs.Lanes.{lane_bit}
 use Rattle.settling.proofs.mark_lanes.Statement.{statement}
 use Rattle.settling.proofs.mark_lanes.Tie as tie
 
 abbrev invariant-loop : tie.invariant-loop
 invariant-loop word number before marked₀ lane₀ marked lane =
-    (lane ≤ 64) × ((length marked ≡ 64) × ((l : ℕ) → l < lane → get_or marked l 0 ≡ cond (inLane l word) number (get_or before l 0)))
+    (lane ≤ 64) × ((length marked ≡ 64) × ((l : ℕ) → l < lane → get_or marked l 0 ≡ cond (lane_bit l word) number (get_or before l 0)))
 
 abbrev decreases-loop : tie.decreases-loop
 decreases-loop word number before marked₀ lane₀ marked lane = 64 - lane
@@ -46,11 +46,11 @@ loop-again : tie.Need-loop-preserved invariant-loop decreases-loop
 loop-again c =
     let a = c.before.before.before.args in
     let at = c.before.before.loop in
-    let new = c.by-lane in (
+    let new = c.by_lane in (
       omega arith,
       (
         simp length-set at.invariant.1.0,
-        set_more at.marked at.lane new.result (λ (l : ℕ). cond (inLane l a.word) a.number (get_or a.t3 l 0))
+        set_more at.marked at.lane new.result (λ (l : ℕ). cond (lane_bit l a.word) a.number (get_or a.t3 l 0))
             (omega (arith, at.invariant.1.0)) new.ensures at.invariant.1.1,
       ),
     )
@@ -58,8 +58,8 @@ loop-again c =
 returns : tie.Need-returns invariant-loop decreases-loop
 returns c = record { at = λ l h. c.before.loop.invariant.1.1 l (omega arith) }
 
-pub mark-lanes-spec : {M : Type 1} → statement M
-mark-lanes-spec =
+pub mark_lanes_spec : {M : Type 1} → statement M
+mark_lanes_spec =
     tie.close
     (tie.spec
     invariant-loop

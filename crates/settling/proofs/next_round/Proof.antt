@@ -5,7 +5,7 @@ use Prim.Native.Nat.{◌≤◌}
 use native.Mathlib.Omega.{arith}
 use borrow.Author.Rules.{rules}
 use Rattle.literals.specs.Numbering.{judged}
-use Rattle.papers.specs.Reading.{programIn}
+use Rattle.papers.specs.Reading.{program_in}
 use Rattle.settling.proofs.next_round.Statement.{statement}
 use Rattle.settling.proofs.next_round.Tie as tie
 
@@ -15,11 +15,11 @@ module _ (c : tie.After-judged) where
   abbrev start : tie.Start
   start = c.before.before.before.before.before.before
 
-  all : c.judged.result ≡ judged (programIn start.args.file.now).atoms
+  all : c.judged.result ≡ judged (program_in start.args.file.now).atoms
   all = c.judged.ensures ∙ ap judged start.pre.1
 
   within : c.judged.result ≤ 513
-  within = omega (arith, all, start.pre.0.rules-in.valid.fewAtoms)
+  within = omega (arith, all, start.pre.0.rules_in_lem.valid.few_atoms)
 
 -- ---- the places
 
@@ -54,16 +54,16 @@ returns c =
     let true = made-t false in
     let e = all (known true) in
     record {
-      true-made = true.next-true.ensures;
-      false-made = false.next-false.ensures;
-      true-moved = rw e at taken.replace-words.ensures.0;
-      false-moved = rw e at c.replace-words2.ensures.0;
-      true-taken = rw e at taken.replace-words.ensures.1;
-      false-taken = rw e at c.replace-words2.ensures.1;
+      true_made = true.next_true.ensures;
+      false_made = false.next_false.ensures;
+      true_moved = rw e at taken.replace-words.ensures.0;
+      false_moved = rw e at c.replace-words2.ensures.0;
+      true_taken = rw e at taken.replace-words.ensures.1;
+      false_taken = rw e at c.replace-words2.ensures.1;
     }
 
-pub next-round-spec : {M : Type 1} → statement M
-next-round-spec =
+pub next_round_spec : {M : Type 1} → statement M
+next_round_spec =
     tie.close
     (tie.spec
     judged-requires

@@ -6,9 +6,9 @@ use Prim.Native.Nat.{◌≤◌}
 use native.Mathlib.Omega.{arith}
 use Rattle.literals.specs.Numbering.{judged}
 use Rattle.papers.specs.Program.{Program}
-use Rattle.papers.specs.Reading.{programIn}
-use Rattle.papers.proofs.FileFacts.{atoms_are, few-atoms}
-use Rattle.papers.proofs.Lists.{getD-zeros}
+use Rattle.papers.specs.Reading.{program_in}
+use Rattle.papers.proofs.FileFacts.{atoms_are, few_atoms_lem}
+use Rattle.papers.proofs.Lists.{get_or_zeros}
 use Rattle.settling.proofs.SettlingLaws.{held}
 use Rattle.settling.proofs.settle.Statement.{statement}
 use Rattle.settling.proofs.settle.Tie as tie
@@ -17,13 +17,13 @@ use Rattle.settling.proofs.settle.Tie as tie
 
 module _ (c : tie.Start) where
   abbrev program : Program
-  program = programIn c.args.file.now
+  program = program_in c.args.file.now
 
   atoms : program.atoms ≡ c.args.contents.atoms
   atoms = atoms_are c.args.file.now c.args.contents c.requires.0
 
   few : c.args.contents.atoms ≤ 256
-  few = few-atoms c.args.file.now c.args.contents c.requires.0
+  few = few_atoms_lem c.args.file.now c.args.contents c.requires.0
 
 settle-words-requires : tie.Need-settle-words-requires
 settle-words-requires c κs = let pre = c.before.before.before.before.before.before.before.requires in (pre.0, (pre.1.0, (pre.1.1, (refl, refl))))
@@ -46,9 +46,9 @@ returns c =
     let all : c.before.before.judged.result ≡ judged (program s).atoms = rw (atoms s) c.before.before.judged.ensures in (
       settled.ensures.0,
       held (program s) s.args.base all settled.ensures.0 settled.ensures.1.0 settled.ensures.1.1
-          c.before.before.before.before.lent-known.ensures (record { at = λ o h. getD-zeros 513 o }) c.complement-words.ensures,
+          c.before.before.before.before.lent-known.ensures (record { at = λ o h. get_or_zeros 513 o }) c.complement-words.ensures,
     )
 
-pub settle-spec : {M : Type 1} → statement M
-settle-spec =
+pub settle_spec : {M : Type 1} → statement M
+settle_spec =
     tie.close (tie.spec settle-words-requires lent-known-requires judged-requires complement-words-requires returns)

@@ -5,16 +5,16 @@ use mathlib.Core.Path.{◌≡◌, sym}
 use Prim.Native.Nat.{◌-◌, ◌≤◌, ◌<◌}
 use native.Mathlib.Omega.{arith}
 use Rattle.papers.specs.Program.{Program}
-use Rattle.papers.specs.Reading.{programIn}
-use Rattle.papers.proofs.FileFacts.{atoms_are, few-atoms}
-use Rattle.settling.proofs.SettlingLaws.{Settling, settling-start, settling-next}
+use Rattle.papers.specs.Reading.{program_in}
+use Rattle.papers.proofs.FileFacts.{atoms_are, few_atoms_lem}
+use Rattle.settling.proofs.SettlingLaws.{Settling, settling_start, settling_next}
 use Rattle.settling.proofs.settle_words.Statement.{statement}
 use Rattle.settling.proofs.settle_words.Tie as tie
 
 abbrev invariant-loop : tie.invariant-loop
 invariant-loop file contents rules rule-visits entries entry-visits base t₀ f₀ trues falses backing₀ next-t₀ next-f₀ moved₀ rounds₀ round₀ going₀
     t f backing next-t next-f moved rounds round going =
-    Settling (programIn file) base round going t f next-t next-f moved rounds
+    Settling (program_in file) base round going t f next-t next-f moved rounds
 
 abbrev decreases-loop : tie.decreases-loop
 decreases-loop file contents rules rule-visits entries entry-visits base t₀ f₀ trues falses backing₀ next-t₀ next-f₀ moved₀ rounds₀ round₀ going₀
@@ -25,13 +25,13 @@ decreases-loop file contents rules rule-visits entries entry-visits base t₀ f�
 
 module _ (c : tie.Start invariant-loop decreases-loop) where
   abbrev program : Program
-  program = programIn c.args.file.now
+  program = program_in c.args.file.now
 
   atoms : program.atoms ≡ c.args.contents.atoms
   atoms = atoms_are c.args.file.now c.args.contents c.requires.0
 
   few : c.args.contents.atoms ≤ 256
-  few = few-atoms c.args.file.now c.args.contents c.requires.0
+  few = few_atoms_lem c.args.file.now c.args.contents c.requires.0
 
 -- ---- the places
 
@@ -57,7 +57,7 @@ abducible-lanes-requires : tie.Need-abducible-lanes-requires invariant-loop decr
 abducible-lanes-requires c κs = let pre = c.before.before.before.before.before.before.before.requires in (pre.0, pre.1.1.0)
 
 loop-holds : tie.Need-loop-init invariant-loop decreases-loop
-loop-holds c = let s = start c in settling-start (program s) s.args.base s.pre.1.1.1.0 s.pre.1.1.1.1 _ _
+loop-holds c = let s = start c in settling_start (program s) s.args.base s.pre.1.1.1.0 s.pre.1.1.1.1 _ _
 
 next-round-requires : tie.Need-next-round-requires invariant-loop decreases-loop
 next-round-requires c κs =
@@ -80,16 +80,16 @@ loop-again c =
     let here = turn done in
     let s = begun here in
     let at = head here in
-    settling-next (program s) s.args.base at.before.abducible-lanes.ensures.0 at.loop.inv done.next-round.ensures
+    settling_next (program s) s.args.base at.before.abducible-lanes.ensures.0 at.loop.inv done.next-round.ensures
     (omega (arith, words.0)) (omega (arith, words.1.0)) c.mark-lanes.ensures
 
 returns : tie.Need-returns invariant-loop decreases-loop
 returns c =
     let at = c.before.loop.invariant in
-    (at.rests c.loop-test.false, (at.true-beyond, at.false-beyond))
+    (at.rests c.loop-test.false, (at.true_beyond, at.false_beyond))
 
-pub settle-words-spec : {M : Type 1} → statement M
-settle-words-spec =
+pub settle_words_spec : {M : Type 1} → statement M
+settle_words_spec =
     tie.close
     (tie.spec
     invariant-loop

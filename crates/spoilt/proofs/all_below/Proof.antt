@@ -6,7 +6,7 @@ use native.Mathlib.Omega.{arith}
 use borrow.Author.Rules.{rules}
 use lib.ListN.{take, drop}
 use Rattle.steps.specs.Spoilt.{all_below}
-use Rattle.spoilt.proofs.SpoiltLaws.{below_next, below-not, below_end}
+use Rattle.spoilt.proofs.SpoiltLaws.{below_next, below_not, below_end}
 use Rattle.spoilt.proofs.all_below.Statement.{statement}
 use Rattle.spoilt.proofs.all_below.Tie as tie
 
@@ -29,7 +29,7 @@ returns : tie.Need-returns invariant-loop decreases-loop
 returns c =
     sym
     (c.before.before.before.loop.invariant.1
-    ∙ below-not _ _ _ c.before.before.before.before.requires _ c.before.before.loop-test.true c.if1.true)
+    ∙ below_not _ _ _ c.before.before.before.before.requires _ c.before.before.loop-test.true c.if1.true)
 
 add-i : tie.Need-overflow-add-i invariant-loop decreases-loop
 add-i c = search rules
@@ -47,8 +47,8 @@ loop-again c = (
 returns-2 : tie.Need-returns-2 invariant-loop decreases-loop
 returns-2 c = sym (c.before.loop.invariant.1 ∙ below_end _ _ _ c.before.before.requires _ c.loop-test.false)
 
-pub all-below-spec : {M : Type 1} → statement M
-all-below-spec =
+pub all_below_spec : {M : Type 1} → statement M
+all_below_spec =
     tie.close
     (tie.spec
     invariant-loop

@@ -6,7 +6,7 @@ use native.Mathlib.Omega.{arith}
 use borrow.Author.Rules.{rules}
 use lib.ListN.{take, drop}
 use Rattle.steps.specs.Spoilt.{rising}
-use Rattle.spoilt.proofs.SpoiltLaws.{rising-next, rising-not, rising-end}
+use Rattle.spoilt.proofs.SpoiltLaws.{rising_next, rising_not, rising_end}
 use Rattle.spoilt.proofs.rises.Statement.{statement}
 use Rattle.spoilt.proofs.rises.Tie as tie
 
@@ -32,7 +32,7 @@ returns : tie.Need-returns invariant-loop decreases-loop
 returns c =
     sym
     (c.before.before.before.loop.invariant.1
-    ∙ rising-not _ _ _ c.before.before.before.before.requires _ c.before.before.loop-test.true c.if1.true)
+    ∙ rising_not _ _ _ c.before.before.before.before.requires _ c.before.before.loop-test.true c.if1.true)
 
 add-least : tie.Need-overflow-add-least invariant-loop decreases-loop
 add-least c = omega (arith, c.before.shared-slice-known.given c.before.before.before.loop.i)
@@ -47,14 +47,14 @@ loop-again : tie.Need-loop-preserved invariant-loop decreases-loop
 loop-again c = (
   omega arith,
   c.before.before.before.loop.invariant.1
-      ∙ rising-next _ _ _ c.before.before.before.before.requires _ c.before.before.loop-test.true c.if1.false,
+      ∙ rising_next _ _ _ c.before.before.before.before.requires _ c.before.before.loop-test.true c.if1.false,
 )
 
 returns-2 : tie.Need-returns-2 invariant-loop decreases-loop
-returns-2 c = sym (c.before.loop.invariant.1 ∙ rising-end _ _ _ c.before.before.requires _ c.loop-test.false)
+returns-2 c = sym (c.before.loop.invariant.1 ∙ rising_end _ _ _ c.before.before.requires _ c.loop-test.false)
 
-pub rises-spec : {M : Type 1} → statement M
-rises-spec =
+pub rises_spec : {M : Type 1} → statement M
+rises_spec =
     tie.close
     (tie.spec
     invariant-loop

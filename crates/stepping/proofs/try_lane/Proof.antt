@@ -2,7 +2,7 @@
 -- Assumes nothing.
 use native.Mathlib.Omega.{arith}
 use borrow.Author.Rules.{rules}
-use Rattle.stepping.proofs.BatchSteps.{lane-stands, lane-tries, lane-writes}
+use Rattle.stepping.proofs.BatchSteps.{lane_stands, lane_tries, lane_writes}
 use Rattle.stepping.proofs.try_lane.Statement.{statement}
 use Rattle.stepping.proofs.try_lane.Tie as tie
 
@@ -26,7 +26,7 @@ enum-told-2 c = search rules
 
 add-t17 : tie.Need-overflow-add-t17
 add-t17 c =
-    let done = lane-tries c.before.before.before.before.before.before.before.requires c.before.before.decide.ensures c.enum-told2.given.1 in
+    let done = lane_tries c.before.before.before.before.before.before.before.requires c.before.before.decide.ensures c.enum-told2.given.1 in
     omega arith
 
 enum-told-3 : tie.Need-enum-told-3
@@ -37,17 +37,17 @@ mul-list c = search rules
 
 slice-write-list : tie.Need-slice-write-list
 slice-write-list c =
-    let done = lane-writes c.before.before.before.before.before.before.before.requires c.before.before.decide.ensures c.enum-told3.given.1 in
+    let done = lane_writes c.before.before.before.before.before.before.before.requires c.before.before.decide.ensures c.enum-told3.given.1 in
     omega arith
 
 add-t20 : tie.Need-overflow-add-t20
 add-t20 c =
-    let done = lane-writes c.before.before.before.before.before.before.before.requires c.before.before.decide.ensures c.enum-told3.given.1 in
+    let done = lane_writes c.before.before.before.before.before.before.before.requires c.before.before.decide.ensures c.enum-told3.given.1 in
     omega arith
 
 add-t21 : tie.Need-overflow-add-t21
 add-t21 c =
-    let done = lane-writes c.before.before.before.before.before.before.before.requires c.before.before.decide.ensures c.enum-told3.given.1 in
+    let done = lane_writes c.before.before.before.before.before.before.before.requires c.before.before.decide.ensures c.enum-told3.given.1 in
     omega arith
 
 same_length : tie.Need-same-length
@@ -55,14 +55,14 @@ same_length c = search rules
 
 returns : tie.Need-returns
 returns c =
-    lane-stands c.before.before.before.before.before.before.before.requires c.before.before.decide.ensures c.enum_told.given.1
+    lane_stands c.before.before.before.before.before.before.before.requires c.before.before.decide.ensures c.enum_told.given.1
 
 same-length-2 : tie.Need-same-length-2
 same-length-2 c = search rules
 
 returns-2 : tie.Need-returns-2
 returns-2 c =
-    lane-tries
+    lane_tries
     c.before.before.before.before.before.before.before.requires
     c.before.before.decide.ensures
     c.enum-told2.given.1
@@ -72,13 +72,13 @@ same-length-3 c = search rules
 
 returns-3 : tie.Need-returns-3
 returns-3 c =
-    lane-writes
+    lane_writes
     c.before.before.before.before.before.before.before.requires
     c.before.before.decide.ensures
     c.enum-told3.given.1
 
-pub try-lane-spec : {M : Type 1} → statement M
-try-lane-spec =
+pub try_lane_spec : {M : Type 1} → statement M
+try_lane_spec =
     tie.close
     (tie.spec
     cast-at

@@ -7,7 +7,7 @@ use native.Mathlib.Omega.{arith}
 use borrow.Author.Rules.{rules}
 use lib.ListN.{take}
 use Rattle.stepping.specs.Stepping.{LanesTried}
-use Rattle.stepping.proofs.BatchSteps.{lanes-none, lanes_next, lanes-short}
+use Rattle.stepping.proofs.BatchSteps.{lanes_none, lanes_next, lanes_short}
 use Rattle.stepping.proofs.try_lanes.Statement.{statement}
 use Rattle.stepping.proofs.try_lanes.Tie as tie
 
@@ -31,7 +31,7 @@ new-lanes-requires c κs = c.before.before.before.requires.kept.held
 loop-holds : tie.Need-loop-init invariant-loop decreases-loop
 loop-holds c =
     let start = c.before.before.before.before in
-    (omega arith, omega arith, c.new-lanes.ensures.few, refl, lanes-none start.requires.kept)
+    (omega arith, omega arith, c.new-lanes.ensures.few, refl, lanes_none start.requires.kept)
 
 in-lane-requires : tie.Need-in-lane-requires invariant-loop decreases-loop
 in-lane-requires c κs = search rules
@@ -66,7 +66,7 @@ returns c =
     let few = at-loop.before.before.before.before.before.requires.lanes in
     let inv = at-loop.loop.invariant in
     let done = lanes_next inv.4 inv.1 (omega arith) at-loop.before.new-lanes.ensures.without inv.3 new call.ensures in
-    lanes-short done (omega arith) (omega arith)
+    lanes_short done (omega arith) (omega arith)
 
 add-lane : tie.Need-overflow-add-lane invariant-loop decreases-loop
 add-lane c = search rules
@@ -104,8 +104,8 @@ returns-2 c =
     subst (λ (n : ℕ). LanesTried a.k a.total a.explained a.rounds.now n a.before a.list.now loop.reached loop.list) e
     loop.invariant.4
 
-pub try-lanes-spec : {M : Type 1} → statement M
-try-lanes-spec =
+pub try_lanes_spec : {M : Type 1} → statement M
+try_lanes_spec =
     tie.close
     (tie.spec
     invariant-loop

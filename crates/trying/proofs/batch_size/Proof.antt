@@ -24,5 +24,5 @@ returns-3 c = record { few = omega arith; allowed = omega arith; there = omega a
 returns-4 : tie.Need-returns-4
 returns-4 c = record { few = omega arith; allowed = omega arith; there = omega arith; none = λ e. inr (omega arith) }
 
-pub batch-size-spec : {M : Type 1} → statement M
-batch-size-spec = tie.close (tie.spec sub-allowed sub-left returns returns-2 returns-3 returns-4)
+pub batch_size_spec : {M : Type 1} → statement M
+batch_size_spec = tie.close (tie.spec sub-allowed sub-left returns returns-2 returns-3 returns-4)

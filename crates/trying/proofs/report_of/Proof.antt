@@ -10,5 +10,5 @@ state-of-requires c κs = search rules
 returns : tie.Need-returns
 returns c = rw c.state-of.ensures
 
-pub report-of-spec : {M : Type 1} → statement M
-report-of-spec = tie.close (tie.spec state-of-requires returns)
+pub report_of_spec : {M : Type 1} → statement M
+report_of_spec = tie.close (tie.spec state-of-requires returns)

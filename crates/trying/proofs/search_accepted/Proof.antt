@@ -5,10 +5,10 @@ use Prim.Native.Nat.{ℕ}
 use borrow.Author.Rules.{rules}
 use Rattle.papers.specs.Field.{numbers}
 use Rattle.steps.specs.Continuing.{steps, begun}
-use Rattle.steps.proofs.Runs.{steps-zero}
-use Rattle.held.specs.HeldProblem.{heldProblem}
-use Rattle.trying.specs.Trying.{problemIn, reportBy}
-use Rattle.trying.proofs.CallReports.{call-told, call-list}
+use Rattle.steps.proofs.Runs.{steps_zero}
+use Rattle.held.specs.HeldProblem.{held_problem}
+use Rattle.trying.specs.Trying.{problem_in, report_by}
+use Rattle.trying.proofs.CallReports.{call_told, call_list}
 use Rattle.trying.proofs.search_accepted.Statement.{statement}
 use Rattle.trying.proofs.search_accepted.Tie as tie
 
@@ -23,13 +23,13 @@ returns c =
     let none = c.before in
     let s = none.before.before.before.before.before.before in
     let a = s.args in
-    let P = heldProblem (problemIn a.file.now (numbers a.query.now)) a.from.held in
+    let P = held_problem (problem_in a.file.now (numbers a.query.now)) a.from.held in
     let work = begun a.from.at a.list.now in
-    let ran = ap (λ (n : ℕ). steps P n work) none.before.if1.true ∙ steps-zero P work in (
+    let ran = ap (λ (n : ℕ). steps P n work) none.before.if1.true ∙ steps_zero P work in (
       c.report-of.ensures
-          ∙ ap (reportBy a.total a.allowance a.from.held) none.untried.ensures
-          ∙ call-told P s.requires.scenarios a.from.at a.list.now a.allowance a.from.held ran,
-      call-list P s.requires.scenarios a.from.at a.list.now a.allowance a.from.held ran,
+          ∙ ap (report_by a.total a.allowance a.from.held) none.untried.ensures
+          ∙ call_told P s.requires.scenarios a.from.at a.list.now a.allowance a.from.held ran,
+      call_list P s.requires.scenarios a.from.at a.list.now a.allowance a.from.held ran,
     )
 
 search-decoded-requires : tie.Need-search-decoded-requires
@@ -41,5 +41,5 @@ same_length c = search rules
 returns-2 : tie.Need-returns-2
 returns-2 c = search rules
 
-pub search-accepted-spec : {M : Type 1} → statement M
-search-accepted-spec = tie.close (tie.spec untried-requires report-of-requires returns search-decoded-requires same_length returns-2)
+pub search_accepted_spec : {M : Type 1} → statement M
+search_accepted_spec = tie.close (tie.spec untried-requires report-of-requires returns search-decoded-requires same_length returns-2)

@@ -5,14 +5,14 @@ use Prim.Native.Nat.{◌<◌}
 use native.Mathlib.Omega.{arith}
 use borrow.Author.Rules.{rules}
 use Rattle.papers.specs.Field.{numbers}
-use Rattle.preparing.proofs.CountsWithin.{folds-within, judged-within, asked-within}
+use Rattle.preparing.proofs.CountsWithin.{folds_within, judged_within, asked_within}
 use Rattle.steps.specs.Continuing.{steps}
 use Rattle.stepping.specs.declared.Progress.{Progress}
-use Rattle.stepping.specs.Stepping.{workOf}
-use Rattle.verdicts.proofs.PapersDecoded.{query-part, papers-decoded}
-use Rattle.held.specs.HeldProblem.{heldProblem}
-use Rattle.trying.specs.Trying.{problemIn}
-use Rattle.trying.proofs.CallReports.{unspoilt-kept, call-told, call-list}
+use Rattle.stepping.specs.Stepping.{work_of}
+use Rattle.verdicts.proofs.PapersDecoded.{query_part, papers_decoded}
+use Rattle.held.specs.HeldProblem.{held_problem}
+use Rattle.trying.specs.Trying.{problem_in}
+use Rattle.trying.proofs.CallReports.{unspoilt_kept, call_told, call_list}
 use Rattle.trying.proofs.search_decoded.Statement.{statement}
 use Rattle.trying.proofs.search_decoded.Tie as tie
 
@@ -71,7 +71,7 @@ part-try-all-start : tie.Need-slice-bounds-try-all-start
 part-try-all-start c = search rules
 
 part-try-all-end : tie.Need-slice-bounds-try-all-end
-part-try-all-end c = let p = prepared (begun c) in omega (arith, folds-within (start p).pre.prepared p.prepare.ensures)
+part-try-all-end c = let p = prepared (begun c) in omega (arith, folds_within (start p).pre.prepared p.prepare.ensures)
 
 slice-aggregate-try-all-2 : tie.Need-slice-aggregate-try-all-2
 slice-aggregate-try-all-2 c = search rules
@@ -83,7 +83,7 @@ part-try-all-start-2 : tie.Need-slice-bounds-try-all-start-2
 part-try-all-start-2 c = search rules
 
 part-try-all-end-2 : tie.Need-slice-bounds-try-all-end-2
-part-try-all-end-2 c = let p = prepared (begun (rules-part c)) in omega (arith, judged-within (start p).pre.prepared p.prepare.ensures)
+part-try-all-end-2 c = let p = prepared (begun (rules-part c)) in omega (arith, judged_within (start p).pre.prepared p.prepare.ensures)
 
 sub-try-all-3 : tie.Need-overflow-sub-try-all-3
 sub-try-all-3 c = search rules
@@ -92,7 +92,7 @@ part-try-all-start-3 : tie.Need-slice-bounds-try-all-start-3
 part-try-all-start-3 c = search rules
 
 part-try-all-end-3 : tie.Need-slice-bounds-try-all-end-3
-part-try-all-end-3 c = let p = prepared (begun (rules-part (entries-part c))) in omega (arith, asked-within (start p).pre.prepared p.prepare.ensures)
+part-try-all-end-3 c = let p = prepared (begun (rules-part (entries-part c))) in omega (arith, asked_within (start p).pre.prepared p.prepare.ensures)
 
 try-all-requires : tie.Need-try-all-requires
 try-all-requires c κs =
@@ -100,12 +100,12 @@ try-all-requires c κs =
     let p = prepared (all-parts c) in
     let a = (start p).args in
     let sound = (start p).pre in
-    let P = heldProblem (problemIn a.file.now (numbers a.query.now)) a.from.held in
+    let P = held_problem (problem_in a.file.now (numbers a.query.now)) a.from.held in
     let none_Tried = ap (λ (b : Progress). b.tried) none in (
       record {
-        prepared = papers-decoded p.prepare.ensures sound.prepared;
+        prepared = papers_decoded p.prepare.ensures sound.prepared;
         scenarios = sound.scenarios;
-        kept = rw none (unspoilt-kept P sound.scenarios a.from.at a.list.now sound.unspoilt);
+        kept = rw none (unspoilt_kept P sound.scenarios a.from.at a.list.now sound.unspoilt);
         room = omega (arith, allowed (start p));
       },
       none_Tried,
@@ -123,16 +123,16 @@ returns c =
     let none = (all-parts tried.before).untried.ensures in
     let p = prepared (all-parts tried.before) in
     let a = (start p).args in
-    let P = heldProblem (problemIn a.file.now (numbers a.query.now)) a.from.held in
-    let told = rw (query-part p.prepare.ensures) at tried.try-all.ensures.is in
-    let ran = ap (λ (b : Progress). steps P a.allowance (workOf b a.list.now)) (sym none) ∙ told in
+    let P = held_problem (problem_in a.file.now (numbers a.query.now)) a.from.held in
+    let told = rw (query_part p.prepare.ensures) at tried.try-all.ensures.is in
+    let ran = ap (λ (b : Progress). steps P a.allowance (work_of b a.list.now)) (sym none) ∙ told in
     let scenarios = (start p).pre.scenarios in (
-      c.report-of.ensures ∙ call-told P scenarios a.from.at a.list.now a.allowance a.from.held ran,
-      call-list P scenarios a.from.at a.list.now a.allowance a.from.held ran,
+      c.report-of.ensures ∙ call_told P scenarios a.from.at a.list.now a.allowance a.from.held ran,
+      call_list P scenarios a.from.at a.list.now a.allowance a.from.held ran,
     )
 
-pub search-decoded-spec : {M : Type 1} → statement M
-search-decoded-spec =
+pub search_decoded_spec : {M : Type 1} → statement M
+search_decoded_spec =
     tie.close
     (tie.spec
     slice-aggregate-prepare

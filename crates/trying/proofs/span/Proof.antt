@@ -10,5 +10,5 @@ returns c = rw c.if1.true
 returns-2 : tie.Need-returns-2
 returns-2 c = rw (ne_eqb _ 0 c.if1.false)
 
-pub span-spec : {M : Type 1} → statement M
-span-spec = tie.close (tie.spec returns returns-2)
+pub span_spec : {M : Type 1} → statement M
+span_spec = tie.close (tie.spec returns returns-2)

@@ -4,20 +4,20 @@ use mathlib.Core.Path.{◌≡◌, refl, ◌∙◌}
 use Prim.Native.Nat.{◌+◌, ◌-◌, ◌≤◌}
 use native.Mathlib.Omega.{arith}
 use borrow.Author.Rules.{rules}
-use Rattle.papers.proofs.FileFacts.{abducibles-are, program-valid}
+use Rattle.papers.proofs.FileFacts.{abducibles_are, program_valid}
 use Rattle.stepping.specs.Stepping.{Batch, Tried}
-use Rattle.held.specs.HeldProblem.{heldProblem}
+use Rattle.held.specs.HeldProblem.{held_problem}
 use Rattle.agreeing.specs.DisagreeingRuns.{DisagreeingRun}
-use Rattle.trying.specs.Trying.{problemIn, span_of}
-use Rattle.trying.proofs.PassedOver.{span-some}
-use Rattle.trying.proofs.Batches.{tried-none, tried_then, tried-short, tried-done}
+use Rattle.trying.specs.Trying.{problem_in, span_of}
+use Rattle.trying.proofs.PassedOver.{span_some}
+use Rattle.trying.proofs.Batches.{tried_none, tried_then, tried_short, tried_done}
 use Rattle.trying.proofs.try_all.Statement.{statement}
 use Rattle.trying.proofs.try_all.Tie as tie
 
 abbrev invariant-loop : tie.invariant-loop
 invariant-loop file contents rules rule-visits entries entry-visits query held list₀ total allowance k reached₀ run₀ count₀ list reached run count =
     Batch (span_of run) reached.tried allowance reached.position total count
-    × Tried (heldProblem (problemIn file query) held) total reached.tried reached₀ list₀ reached list
+    × Tried (held_problem (problem_in file query) held) total reached.tried reached₀ list₀ reached list
     × DisagreeingRun contents.abducibles held reached.position run
 
 abbrev decreases-loop : tie.decreases-loop
@@ -29,7 +29,7 @@ few : (s : tie.Start invariant-loop decreases-loop) → s.args.contents.abducibl
 few s =
     let file = s.args.file.now in
     let answer = s.requires.0.prepared.answer in
-    omega (arith, abducibles-are file s.args.contents answer, (program-valid file s.args.contents answer).fewAbducibles)
+    omega (arith, abducibles_are file s.args.contents answer, (program_valid file s.args.contents answer).few_abducibles)
 
 -- ---- the places
 
@@ -49,14 +49,14 @@ span-requires : tie.Need-span-requires invariant-loop decreases-loop
 span-requires c κs = search rules
 
 batch-size-requires : tie.Need-batch-size-requires invariant-loop decreases-loop
-batch-size-requires c κs = (rw c.span.ensures (span-some c.before.disagreeing-run.result), omega arith, (begun c.before).pre.0.kept.within)
+batch-size-requires c κs = (rw c.span.ensures (span_some c.before.disagreeing-run.result), omega arith, (begun c.before).pre.0.kept.within)
 
 loop-holds : tie.Need-loop-init invariant-loop decreases-loop
 loop-holds c =
     let asked = c.before.before in
     let pre = (begun asked).requires in (
       rw pre.1 (rw c.before.span.ensures at c.batch-size.ensures),
-      tried-none pre.1 pre.0.kept,
+      tried_none pre.1 pre.0.kept,
       asked.disagreeing-run.ensures,
     )
 
@@ -81,7 +81,7 @@ returns : tie.Need-returns invariant-loop decreases-loop
 returns c =
     let tried = c.before.before.before.before in
     let inv = (turn tried).loop.invariant in
-    tried-short (tried_then inv.1 refl tried.try-next.ensures) inv.0.allowed (omega arith)
+    tried_short (tried_then inv.1 refl tried.try-next.ensures) inv.0.allowed (omega arith)
 
 disagreeing-run-requires-2 : tie.Need-disagreeing-run-requires-2 invariant-loop decreases-loop
 disagreeing-run-requires-2 c κs = few (entered (turn c.before.before.before.before))
@@ -92,7 +92,7 @@ span-requires-2 c κs = search rules
 batch-size-requires-2 : tie.Need-batch-size-requires-2 invariant-loop decreases-loop
 batch-size-requires-2 c κs =
     let tried = c.before.before.before.before.before.before in
-    let some = span-some c.before.disagreeing-run2.result in
+    let some = span_some c.before.disagreeing-run2.result in
     (rw c.span2.ensures some, (turn tried).loop.invariant.0.allowed, tried.try-next.ensures.advance.kept.within)
 
 loop-less : tie.Need-loop-smaller invariant-loop decreases-loop
@@ -123,10 +123,10 @@ returns-2 : tie.Need-returns-2 invariant-loop decreases-loop
 returns-2 c =
     let inv = c.before.loop.invariant in
     let pre = (entered c.before).pre in
-    tried-done inv.1 pre.0.scenarios (omega arith) (inv.0.none (omega arith))
+    tried_done inv.1 pre.0.scenarios (omega arith) (inv.0.none (omega arith))
 
-pub try-all-spec : {M : Type 1} → statement M
-try-all-spec =
+pub try_all_spec : {M : Type 1} → statement M
+try_all_spec =
     tie.close
     (tie.spec
     invariant-loop

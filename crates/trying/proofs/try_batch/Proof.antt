@@ -3,8 +3,8 @@
 use mathlib.Core.Path.{◌∙◌, ap}
 use Prim.Native.Nat.{ℕ, ◌^◌}
 use borrow.Author.Rules.{rules}
-use Rattle.papers.proofs.FileFacts.{abducibles-are}
-use Rattle.trying.proofs.Batches.{tried-lanes}
+use Rattle.papers.proofs.FileFacts.{abducibles_are}
+use Rattle.trying.proofs.Batches.{tried_lanes}
 use Rattle.trying.proofs.try_batch.Statement.{statement}
 use Rattle.trying.proofs.try_batch.Tie as tie
 
@@ -21,7 +21,7 @@ try-lanes-requires c κs =
     let a = start.args in
     let ready = start.requires.0 in
     record {
-      scenarios = ready.scenarios ∙ ap (λ (n : ℕ). 3 ^ n) (abducibles-are a.file.now a.contents ready.prepared.answer);
+      scenarios = ready.scenarios ∙ ap (λ (n : ℕ). 3 ^ n) (abducibles_are a.file.now a.contents ready.prepared.answer);
       kept = ready.kept;
       lanes = start.requires.1;
       room = ready.room;
@@ -34,9 +34,9 @@ same_length c = search rules
 returns : tie.Need-returns
 returns c =
     let judged = c.before.before.before.before.before.before in
-    tried-lanes c.before.before.try-lanes.ensures judged.judge-agreeing.ensures.lanes
+    tried_lanes c.before.before.try-lanes.ensures judged.judge-agreeing.ensures.lanes
 
-pub try-batch-spec : {M : Type 1} → statement M
-try-batch-spec =
+pub try_batch_spec : {M : Type 1} → statement M
+try_batch_spec =
     tie.close
     (tie.spec cast-judge-agreeing judge-agreeing-requires try-lanes-requires same_length returns)

@@ -2,8 +2,8 @@
 -- Assumes nothing.
 use native.Mathlib.Omega.{arith}
 use borrow.Author.Rules.{rules}
-use Rattle.preparing.proofs.CountsWithin.{folds-within, judged-within, asked-within}
-use Rattle.verdicts.proofs.PapersDecoded.{query-part, papers-decoded}
+use Rattle.preparing.proofs.CountsWithin.{folds_within, judged_within, asked_within}
+use Rattle.verdicts.proofs.PapersDecoded.{query_part, papers_decoded}
 use Rattle.valuation.proofs.judge_accepted.Statement.{statement}
 use Rattle.valuation.proofs.judge_accepted.Tie as tie
 
@@ -52,7 +52,7 @@ part-judge-decoded-start : tie.Need-slice-bounds-judge-decoded-start
 part-judge-decoded-start c = search rules
 
 part-judge-decoded-end : tie.Need-slice-bounds-judge-decoded-end
-part-judge-decoded-end c = let p = prepared c in omega (arith, folds-within (start p).pre.0 p.prepare.ensures)
+part-judge-decoded-end c = let p = prepared c in omega (arith, folds_within (start p).pre.0 p.prepare.ensures)
 
 slice-aggregate-judge-decoded-2 : tie.Need-slice-aggregate-judge-decoded-2
 slice-aggregate-judge-decoded-2 c = search rules
@@ -64,7 +64,7 @@ part-judge-decoded-start-2 : tie.Need-slice-bounds-judge-decoded-start-2
 part-judge-decoded-start-2 c = search rules
 
 part-judge-decoded-end-2 : tie.Need-slice-bounds-judge-decoded-end-2
-part-judge-decoded-end-2 c = let p = prepared (rules-part c) in omega (arith, judged-within (start p).pre.0 p.prepare.ensures)
+part-judge-decoded-end-2 c = let p = prepared (rules-part c) in omega (arith, judged_within (start p).pre.0 p.prepare.ensures)
 
 sub-judge-decoded-3 : tie.Need-overflow-sub-judge-decoded-3
 sub-judge-decoded-3 c = search rules
@@ -73,19 +73,19 @@ part-judge-decoded-start-3 : tie.Need-slice-bounds-judge-decoded-start-3
 part-judge-decoded-start-3 c = search rules
 
 part-judge-decoded-end-3 : tie.Need-slice-bounds-judge-decoded-end-3
-part-judge-decoded-end-3 c = let p = prepared (rules-part (entries-part c)) in omega (arith, asked-within (start p).pre.0 p.prepare.ensures)
+part-judge-decoded-end-3 c = let p = prepared (rules-part (entries-part c)) in omega (arith, asked_within (start p).pre.0 p.prepare.ensures)
 
 judge-decoded-requires : tie.Need-judge-decoded-requires
-judge-decoded-requires c κs = let p = all-parts c in (papers-decoded p.prepare.ensures (start p).pre.0, (start p).pre.1)
+judge-decoded-requires c κs = let p = all-parts c in (papers_decoded p.prepare.ensures (start p).pre.0, (start p).pre.1)
 
 same_length : tie.Need-same-length
 same_length c = search rules
 
 returns : tie.Need-returns
-returns c = let judged = c.before.before in rw (query-part (all-parts judged.before).prepare.ensures) at judged.judge-decoded.ensures
+returns c = let judged = c.before.before in rw (query_part (all-parts judged.before).prepare.ensures) at judged.judge-decoded.ensures
 
-pub judge-accepted-spec : {M : Type 1} → statement M
-judge-accepted-spec =
+pub judge_accepted_spec : {M : Type 1} → statement M
+judge_accepted_spec =
     tie.close
     (tie.spec
     slice-aggregate-prepare

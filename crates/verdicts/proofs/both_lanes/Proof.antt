@@ -5,7 +5,7 @@ use mathlib.Core.Path.{◌≡◌, subst}
 use Prim.Native.Nat.{ℕ, ◌-◌, ◌≤◌}
 use native.Mathlib.Omega.{arith}
 use Rattle.verdicts.specs.VerdictLanes.{BothLanes}
-use Rattle.verdicts.proofs.VerdictLaws.{both-none, both-more}
+use Rattle.verdicts.proofs.VerdictLaws.{both_none, both_more}
 use Rattle.verdicts.proofs.both_lanes.Statement.{statement}
 use Rattle.verdicts.proofs.both_lanes.Tie as tie
 
@@ -16,7 +16,7 @@ abbrev decreases-loop : tie.decreases-loop
 decreases-loop trues falses count both₀ o₀ both o = count - o
 
 loop-holds : tie.Need-loop-init invariant-loop decreases-loop
-loop-holds c = (omega arith, both-none c.args.trues.now c.args.falses.now)
+loop-holds c = (omega arith, both_none c.args.trues.now c.args.falses.now)
 
 mul-both : tie.Need-overflow-mul-both invariant-loop decreases-loop
 mul-both c = search rules
@@ -40,7 +40,7 @@ loop-again : tie.Need-loop-preserved invariant-loop decreases-loop
 loop-again c =
     let l = c.before.before.before.loop in
     let a = c.before.before.before.before.args in
-    (omega arith, both-more a.trues.now a.falses.now l.both l.o l.invariant.1)
+    (omega arith, both_more a.trues.now a.falses.now l.both l.o l.invariant.1)
 
 returns : tie.Need-returns invariant-loop decreases-loop
 returns c =
@@ -49,8 +49,8 @@ returns c =
     let e : l.o ≡ a.count = omega arith in
     subst (λ (n : ℕ). BothLanes n a.trues.now a.falses.now l.both) e l.invariant.1
 
-pub both-lanes-spec : {M : Type 1} → statement M
-both-lanes-spec =
+pub both_lanes_spec : {M : Type 1} → statement M
+both_lanes_spec =
     tie.close
     (tie.spec
     invariant-loop

@@ -4,9 +4,9 @@ use borrow.Author.Rules.{rules}
 use mathlib.Core.Path.{subst}
 use Prim.Native.Nat.{ℕ, ◌<◌}
 use native.Mathlib.Omega.{arith}
-use Rattle.lanes.proofs.WordLaws.{literals-of}
+use Rattle.lanes.proofs.WordLaws.{literals_of}
 use Rattle.verdicts.specs.VerdictLanes.{BothLanes}
-use Rattle.verdicts.proofs.VerdictLaws.{explained-word}
+use Rattle.verdicts.proofs.VerdictLaws.{explained_word}
 use Rattle.verdicts.proofs.explained_lanes.Statement.{statement}
 use Rattle.verdicts.proofs.explained_lanes.Tie as tie
 
@@ -34,7 +34,7 @@ element-copy-out-lanes c = few c.before.before
 body-word-requires : tie.Need-body-word-requires
 body-word-requires c κs =
     let pre = c.before.before.before.before.before.requires in
-    literals-of (omega (arith, pre.0)) pre.1
+    literals_of (omega (arith, pre.0)) pre.1
 
 judged-requires : tie.Need-judged-requires
 judged-requires c κs = search rules
@@ -56,12 +56,12 @@ returns c =
     let falses = a.falses.now in
     let other = asked.before.before.other-lanes in
     let both = subst (λ (n : ℕ). BothLanes n trues falses c.before.both_lanes.result) counted.judged.ensures c.before.both_lanes.ensures in
-    explained-word a.atoms found.falsum.result.0 a.query.now trues falses other.result asked.body-word.result
+    explained_word a.atoms found.falsum.result.0 a.query.now trues falses other.result asked.body-word.result
     c.before.both_lanes.result c.other-lanes2.result found.falsum.ensures s.requires.1 other.ensures asked.body-word.ensures both
     c.other-lanes2.ensures
 
-pub explained-lanes-spec : {M : Type 1} → statement M
-explained-lanes-spec =
+pub explained_lanes_spec : {M : Type 1} → statement M
+explained_lanes_spec =
     tie.close
     (tie.spec
     falsum-requires

@@ -2,9 +2,9 @@
 -- Assumes nothing.
 use mathlib.Core.Path.{◌≡◌, refl}
 use Rattle.papers.specs.Program.{Program}
-use Rattle.papers.specs.Reading.{programIn}
-use Rattle.papers.proofs.FileFacts.{atoms_are, few-atoms}
-use Rattle.verdicts.proofs.VerdictLaws.{query-listed, verdict-lanes}
+use Rattle.papers.specs.Reading.{program_in}
+use Rattle.papers.proofs.FileFacts.{atoms_are, few_atoms_lem}
+use Rattle.verdicts.proofs.VerdictLaws.{query_listed, verdict_lanes}
 use Rattle.verdicts.proofs.judge_lanes.Statement.{statement}
 use Rattle.verdicts.proofs.judge_lanes.Tie as tie
 
@@ -12,7 +12,7 @@ use Rattle.verdicts.proofs.judge_lanes.Tie as tie
 
 module _ (c : tie.Start) where
   abbrev program : Program
-  program = programIn c.args.file.now
+  program = program_in c.args.file.now
 
   atoms : program.atoms ≡ c.args.contents.atoms
   atoms = atoms_are c.args.file.now c.args.contents c.requires.0.answer
@@ -25,15 +25,15 @@ settle-words-requires c κs =
 explained-lanes-requires : tie.Need-explained-lanes-requires
 explained-lanes-requires c κs =
     let s = c.before.before.before.before.before.before.before.before.before.before.before in
-    (few-atoms s.args.file.now s.args.contents s.requires.0.answer, rw (atoms s) at (query-listed (program s).atoms s.requires.0.asked))
+    (few_atoms_lem s.args.file.now s.args.contents s.requires.0.answer, rw (atoms s) at (query_listed (program s).atoms s.requires.0.asked))
 
 returns : tie.Need-returns
 returns c =
     let s = c.before.before.before.before.before.before.before.before.before.before.before.before in
     let settled = c.before.before.before.settle-words in
-    verdict-lanes (program s) s.args.base settled.new.1.1.1.1.1.1.1.0 settled.new.1.1.1.1.1.1.1.1.0 settled.result
-    settled.ensures.0 (rw (atoms s) (few-atoms s.args.file.now s.args.contents s.requires.0.answer))
+    verdict_lanes (program s) s.args.base settled.new.1.1.1.1.1.1.1.0 settled.new.1.1.1.1.1.1.1.1.0 settled.result
+    settled.ensures.0 (rw (atoms s) (few_atoms_lem s.args.file.now s.args.contents s.requires.0.answer))
     s.args.query.now c.explained-lanes.result s.requires.0.asked (rw (atoms s) c.explained-lanes.ensures)
 
-pub judge-lanes-spec : {M : Type 1} → statement M
-judge-lanes-spec = tie.close (tie.spec settle-words-requires explained-lanes-requires returns)
+pub judge_lanes_spec : {M : Type 1} → statement M
+judge_lanes_spec = tie.close (tie.spec settle-words-requires explained-lanes-requires returns)

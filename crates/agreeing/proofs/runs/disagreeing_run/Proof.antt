@@ -6,9 +6,9 @@ use native.Mathlib.Nat.{mod-lt}
 use native.Mathlib.Omega.{arith}
 use borrow.Author.Rules.{rules}
 use Rattle.held.specs.Masks.{masks}
-use Rattle.digits.proofs.Powers.{power-fits, power-next}
-use Rattle.agreeing.proofs.AgreeingLaws.{free-agrees}
-use Rattle.agreeing.proofs.RunLaws.{Passing, passing-begun, passing-next}
+use Rattle.digits.proofs.Powers.{power_fits, power_next}
+use Rattle.agreeing.proofs.AgreeingLaws.{free_agrees}
+use Rattle.agreeing.proofs.RunLaws.{Passing, passing_begun, passing_next}
 use Rattle.agreeing.proofs.runs.disagreeing_run.Statement.{statement}
 use Rattle.agreeing.proofs.runs.disagreeing_run.Tie as tie
 
@@ -26,7 +26,7 @@ returns c =
     let a = c.before.before.args in
     record {
       none = λ l h. absurd (omega arith);
-      first = λ e. free-agrees a.k a.held a.scenario (sym c.before.holds-none.ensures ∙ c.if1.true);
+      first = λ e. free_agrees a.k a.held a.scenario (sym c.before.holds-none.ensures ∙ c.if1.true);
     }
 
 cast-assumed : tie.Need-overflow-cast-assumed invariant-loop decreases-loop
@@ -36,17 +36,17 @@ cast-ruled : tie.Need-overflow-cast-ruled invariant-loop decreases-loop
 cast-ruled c = search rules
 
 loop-holds : tie.Need-loop-init invariant-loop decreases-loop
-loop-holds c = let a = c.before.before.before.before.args in (omega arith, omega arith, passing-begun a.k a.held a.scenario)
+loop-holds c = let a = c.before.before.before.before.args in (omega arith, omega arith, passing_begun a.k a.held a.scenario)
 
 div-digit : tie.Need-nonzero-div-digit invariant-loop decreases-loop
-div-digit c = (power-fits c.before.loop.invariant.1 (omega arith)).0
+div-digit c = (power_fits c.before.loop.invariant.1 (omega arith)).0
 
 rem-other : tie.Need-nonzero-rem-other invariant-loop decreases-loop
-rem-other c = (power-fits c.before.loop.invariant.1 (omega arith)).0
+rem-other c = (power_fits c.before.loop.invariant.1 (omega arith)).0
 
 sub-other : tie.Need-overflow-sub-other invariant-loop decreases-loop
 sub-other c =
-    let small = mod-lt c.before.before.before.before.before.before.args.scenario (power-fits c.before.loop.invariant.1 (omega arith)).0 in
+    let small = mod-lt c.before.before.before.before.before.before.args.scenario (power_fits c.before.loop.invariant.1 (omega arith)).0 in
     omega arith
 
 in-lane-requires : tie.Need-in-lane-requires invariant-loop decreases-loop
@@ -62,7 +62,7 @@ other-if-requires : tie.Need-other-if-requires invariant-loop decreases-loop
 other-if-requires c κs = search rules
 
 mul_power : tie.Need-overflow-mul-power invariant-loop decreases-loop
-mul_power c = let h = power-fits c.before.before.before.before.before.loop.invariant.1 (omega arith) in omega arith
+mul_power c = let h = power_fits c.before.before.before.before.before.loop.invariant.1 (omega arith) in omega arith
 
 add-i : tie.Need-overflow-add-i invariant-loop decreases-loop
 add-i c = search rules
@@ -77,8 +77,8 @@ loop-again c =
     let loop = first.before.before.loop in
     let power = loop.invariant.1 in (
       omega arith,
-      power-next loop.power loop.i power,
-      passing-next loop.invariant.2 (omega arith) power (power-fits power (omega arith)).0 first.in_lane.ensures tested.before.in-lane2.ensures
+      power_next loop.power loop.i power,
+      passing_next loop.invariant.2 (omega arith) power (power_fits power (omega arith)).0 first.in_lane.ensures tested.before.in-lane2.ensures
           tested.disagrees.ensures c.other-if.ensures,
     )
 
@@ -90,8 +90,8 @@ returns-2 c =
     let passing = subst (λ (n : ℕ). Passing a.k n a.held a.scenario loop.run) all loop.invariant.2 in
     record { none = passing.none; first = passing.first }
 
-pub disagreeing-run-spec : {M : Type 1} → statement M
-disagreeing-run-spec =
+pub disagreeing_run_spec : {M : Type 1} → statement M
+disagreeing_run_spec =
     tie.close
     (tie.spec
     invariant-loop

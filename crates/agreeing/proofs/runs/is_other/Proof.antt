@@ -13,5 +13,5 @@ returns-2 : tie.Need-returns-2
 unfolding keeps ◌or◌
 returns-2 c = rw c.if1.false
 
-pub is-other-spec : {M : Type 1} → statement M
-is-other-spec = tie.close (tie.spec returns returns-2)
+pub is_other_spec : {M : Type 1} → statement M
+is_other_spec = tie.close (tie.spec returns returns-2)

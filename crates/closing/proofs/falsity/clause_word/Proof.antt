@@ -5,7 +5,7 @@ use mathlib.Core.Path.{◌≡◌}
 use native.Mathlib.Omega.{arith}
 use Prim.Native.Nat.{◌≤◌, ◌-◌}
 use lib.ListN.{length}
-use Rattle.closing.proofs.ClauseWords.{SomeTo, some-to-none, some-to-below, some-to-more, some-to-all}
+use Rattle.closing.proofs.ClauseWords.{SomeTo, some_to_none, some_to_below, some_to_more, some_to_all}
 use Rattle.closing.proofs.falsity.clause_word.Statement.{statement}
 use Rattle.closing.proofs.falsity.clause_word.Tie as tie
 
@@ -19,7 +19,7 @@ decreases-loop clause truth falses count word₀ i₀ word i = count - i
 loop-holds : tie.Need-loop-init invariant-loop decreases-loop
 loop-holds c =
     let a = c.before.args in
-    (omega arith, (search rules, some-to-none a.clause.now a.truth.now a.falses.now))
+    (omega arith, (search rules, some_to_none a.clause.now a.truth.now a.falses.now))
 
 body-literal-in-requires : tie.Need-body-literal-in-requires invariant-loop decreases-loop
 body-literal-in-requires c κs = search rules
@@ -29,7 +29,7 @@ word-of-requires c κs =
     let s = c.before.before.before.before in
     let a = s.args in
     let l = c.before.before.loop in
-    some-to-below a.clause.now a.truth.now a.falses.now l.i l.word l.invariant.1.1 (omega arith) c.body-literal-in.ensures s.requires
+    some_to_below a.clause.now a.truth.now a.falses.now l.i l.word l.invariant.1.1 (omega arith) c.body-literal-in.ensures s.requires
 
 add-i : tie.Need-overflow-add-i invariant-loop decreases-loop
 add-i c = search rules
@@ -45,7 +45,7 @@ loop-again c =
       (
         l.invariant.1.0,
         rw c.word_of.ensures
-            (some-to-more a.clause.now a.truth.now a.falses.now l.i l.word l.invariant.1.1 (omega arith)
+            (some_to_more a.clause.now a.truth.now a.falses.now l.i l.word l.invariant.1.1 (omega arith)
             c.before.body-literal-in.ensures),
       ),
     )
@@ -54,10 +54,10 @@ returns : tie.Need-returns invariant-loop decreases-loop
 returns c =
     let a = c.before.before.before.args in
     let l = c.before.loop in
-    some-to-all a.clause.now a.truth.now a.falses.now l.i l.word l.invariant.1.1 (omega arith)
+    some_to_all a.clause.now a.truth.now a.falses.now l.i l.word l.invariant.1.1 (omega arith)
 
-pub clause-word-spec : {M : Type 1} → statement M
-clause-word-spec =
+pub clause_word_spec : {M : Type 1} → statement M
+clause_word_spec =
     tie.close
     (tie.spec
     invariant-loop

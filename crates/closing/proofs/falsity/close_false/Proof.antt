@@ -6,13 +6,13 @@ use mathlib.Core.Path.{◌≡◌, refl}
 use Prim.Native.Nat.{◌-◌, ◌≤◌}
 use native.Mathlib.Omega.{arith}
 use lib.ListN.{length}
-use Rattle.papers.specs.Reading.{programIn}
-use Rattle.parts.specs.Parts.{headAt, Apart}
-use Rattle.parts.proofs.MarkedParts.{apart_none, apart-end}
+use Rattle.papers.specs.Reading.{program_in}
+use Rattle.parts.specs.Parts.{head_at, Apart}
+use Rattle.parts.proofs.MarkedParts.{apart_none, apart_end}
 use Rattle.closing.specs.FalseWords.{PartDropped}
-use Rattle.closing.proofs.EntriesVisited.{visits-judged, entries-visited, entries-parted, part-entries}
+use Rattle.closing.proofs.EntriesVisited.{visits_judged, entries_visited, entries_parted, part_entries}
 use Rattle.closing.proofs.FalseParts.{parts_none, parts_more}
-use Rattle.closing.proofs.ClosingFalse.{closing-done}
+use Rattle.closing.proofs.ClosingFalse.{closing_done}
 use Rattle.closing.proofs.falsity.close_false.Statement.{statement}
 use Rattle.closing.proofs.falsity.close_false.Tie as tie
 
@@ -20,7 +20,7 @@ abbrev invariant-loop : tie.invariant-loop
 invariant-loop file rows visits truth backing falses₀ count start₀ falses start =
     (start ≤ count)
     × ((count ≡ length visits)
-    × (PartDropped (headAt rows visits) start (programIn file) truth backing falses₀ falses × Apart 1 (length visits) rows visits start))
+    × (PartDropped (head_at rows visits) start (program_in file) truth backing falses₀ falses × Apart 1 (length visits) rows visits start))
 
 abbrev decreases-loop : tie.decreases-loop
 decreases-loop file rows visits truth backing falses₀ count start₀ falses start = count - start
@@ -28,7 +28,7 @@ decreases-loop file rows visits truth backing falses₀ count start₀ falses st
 fill-words-requires : tie.Need-fill-words-requires invariant-loop decreases-loop
 fill-words-requires c κs =
     let pre = c.before.before.before.before.requires in
-    omega (arith, pre.valid.fewAtoms, visits-judged pre)
+    omega (arith, pre.valid.few_atoms, visits_judged pre)
 
 loop-holds : tie.Need-loop-init invariant-loop decreases-loop
 loop-holds c =
@@ -57,7 +57,7 @@ drop-part-requires c κs =
     let s = c.before.before.before.before.before.before.before.before.before.before in
     let found = c.before.before in
     let l = found.before.before.loop in (
-      part-entries l.start found.part-end.result found.part-end.ensures.within (entries-visited s.requires),
+      part_entries l.start found.part-end.result found.part-end.ensures.within (entries_visited s.requires),
       l.invariant.1.1.0.narrowed.long,
     )
 
@@ -76,8 +76,8 @@ loop-again c =
       (
         l.invariant.1.0,
         (
-          parts_more (entries-visited s.requires) e l.invariant.1.1.1 l.invariant.1.1.0 c.drop-part.ensures,
-          apart-end 1 a.rows.now a.visits.now l.start found.part-end.result (entries-parted s.requires) e,
+          parts_more (entries_visited s.requires) e l.invariant.1.1.1 l.invariant.1.1.0 c.drop-part.ensures,
+          apart_end 1 a.rows.now a.visits.now l.start found.part-end.result (entries_parted s.requires) e,
         ),
       ),
     )
@@ -88,10 +88,10 @@ returns c =
     let begun = c.before.before in
     let s = begun.before.before.before.before.before in
     let e : l.start ≡ length s.args.visits.now = omega arith in
-    closing-done s.requires begun.fill-words.ensures.0 (rw e at l.invariant.1.1.0)
+    closing_done s.requires begun.fill-words.ensures.0 (rw e at l.invariant.1.1.0)
 
-pub close-false-spec : {M : Type 1} → statement M
-close-false-spec =
+pub close_false_spec : {M : Type 1} → statement M
+close_false_spec =
     tie.close
     (tie.spec
     invariant-loop

@@ -7,14 +7,14 @@ use native.Mathlib.Omega.{arith}
 use lib.Bits.{bit_and}
 use lib.ListN.{get_or}
 use Rattle.papers.specs.Tests.{◌and◌}
-use Rattle.lanes.specs.Lanes.{inLane}
+use Rattle.lanes.specs.Lanes.{lane_bit}
 use Rattle.lanes.proofs.LaneLaws.{lane_and}
-use Rattle.rows.specs.Rows.{entryRow}
+use Rattle.rows.specs.Rows.{entry_row}
 use Rattle.closing.proofs.falsity.drop_entry.Statement.{statement}
 use Rattle.closing.proofs.falsity.drop_entry.Tie as tie
 
 objective-in-requires : tie.Need-objective-in-requires
-unfolding entryRow
+unfolding entry_row
 objective-in-requires c κs = let w = c.before.before.requires.stands.within in omega arith
 
 mul-old : tie.Need-overflow-mul-old
@@ -51,14 +51,14 @@ returns c =
     record {
       lanes = bit_and old c.before.before.other-lanes.result;
       word = c.entry-word.result;
-      asked = λ l h. lane_and l old c.before.before.other-lanes.result ∙ ap (λ (b : Bool). inLane l old and b) (others.at l h);
+      asked = λ l h. lane_and l old c.before.before.other-lanes.result ∙ ap (λ (b : Bool). lane_bit l old and b) (others.at l h);
       holds = rw o at c.entry-word.ensures;
       is = rw o;
       told = rw o;
     }
 
-pub drop-entry-spec : {M : Type 1} → statement M
-drop-entry-spec =
+pub drop_entry_spec : {M : Type 1} → statement M
+drop_entry_spec =
     tie.close
     (tie.spec
     objective-in-requires

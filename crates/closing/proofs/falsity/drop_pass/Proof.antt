@@ -7,16 +7,16 @@ use Prim.Native.Nat.{◌≤◌, ◌<◌, ◌-◌}
 use native.Mathlib.Omega.{arith}
 use lib.ListN.{length}
 use Rattle.literals.specs.Numbering.{judged}
-use Rattle.papers.specs.Reading.{programIn}
-use Rattle.parts.specs.Parts.{headAt}
+use Rattle.papers.specs.Reading.{program_in}
+use Rattle.parts.specs.Parts.{head_at}
 use Rattle.closing.specs.FalseWords.{Dropped, DroppedTo}
-use Rattle.closing.proofs.DroppedLaws.{dropped-none, dropped-less, dropped-same}
+use Rattle.closing.proofs.DroppedLaws.{dropped_none, dropped_less, dropped_same}
 use Rattle.closing.proofs.falsity.drop_pass.Statement.{statement}
 use Rattle.closing.proofs.falsity.drop_pass.Tie as tie
 
 abbrev invariant-loop : tie.invariant-loop
 invariant-loop file rows visits truth backing falses₀ count changed₀ i₀ falses changed i =
-    (i ≤ count) × ((count ≡ length visits) × DroppedTo (headAt rows visits) i (programIn file) truth backing falses₀ falses changed)
+    (i ≤ count) × ((count ≡ length visits) × DroppedTo (head_at rows visits) i (program_in file) truth backing falses₀ falses changed)
 
 abbrev decreases-loop : tie.decreases-loop
 decreases-loop file rows visits truth backing falses₀ count changed₀ i₀ falses changed i = count - i
@@ -28,7 +28,7 @@ loop-holds c =
       omega arith,
       (
         refl,
-        dropped-none (programIn a.file.now) a.truth.now a.backing.now a.falses.now (headAt a.rows.now a.visits.now)
+        dropped_none (program_in a.file.now) a.truth.now a.backing.now a.falses.now (head_at a.rows.now a.visits.now)
             s.requires.1,
       ),
     )
@@ -58,24 +58,24 @@ loop-again c =
     let l = c.before.before.before.before.before.before.loop in
     let s = c.before.before.before.before.before.before.before.before.before.before in
     let a = s.args in
-    let p = programIn a.file.now in
-    let visited = headAt a.rows.now a.visits.now in
+    let p = program_in a.file.now in
+    let visited = head_at a.rows.now a.visits.now in
     let after = c.before.drop-entry.new.1.1.1.1.1.0 in
     let moved = c.before.drop-entry.result in
-    let within : visited l.i < judged p.atoms = unfold headAt in (s.requires.0.at l.i (omega arith)).within in
+    let within : visited l.i < judged p.atoms = unfold head_at in (s.requires.0.at l.i (omega arith)).within in
     let one : Dropped p (visited l.i) a.truth.now a.backing.now l.falses after moved =
-    unfold headAt in (rw c.before.before.before.place_of.ensures at c.before.drop-entry.ensures) in (
+    unfold head_at in (rw c.before.before.before.place_of.ensures at c.before.drop-entry.ensures) in (
       omega arith,
       (
         refl,
         ⊎_elim
             (λ w.
             rw w.1
-            (dropped-less p a.truth.now a.backing.now a.falses.now visited l.i l.falses l.changed l.invariant.1.1
+            (dropped_less p a.truth.now a.backing.now a.falses.now visited l.i l.falses l.changed l.invariant.1.1
             s.requires.0.valid within after moved one w.0.taken))
             (λ w.
             rw w.1
-            (dropped-same p a.truth.now a.backing.now a.falses.now visited l.i l.falses l.changed l.invariant.1.1
+            (dropped_same p a.truth.now a.backing.now a.falses.now visited l.i l.falses l.changed l.invariant.1.1
             s.requires.0.valid within after moved one w.0.left))
             c.if1.branch,
       ),
@@ -88,8 +88,8 @@ returns c =
     let e : l.i ≡ length a.visits.now = omega arith in
     rw e at l.invariant.1.1
 
-pub drop-pass-spec : {M : Type 1} → statement M
-drop-pass-spec =
+pub drop_pass_spec : {M : Type 1} → statement M
+drop_pass_spec =
     tie.close
     (tie.spec
     invariant-loop

@@ -8,14 +8,14 @@ use Prim.Native.Nat.{ℕ, ◌+◌, ◌-◌, ◌/◌, ◌≤◌}
 use native.Mathlib.Omega.{arith}
 use lib.ListN.{length, get_or, take, drop}
 use Rattle.literals.specs.Numbering.{judged}
-use Rattle.papers.specs.Reading.{programIn}
-use Rattle.lanes.proofs.WordLaws.{literals-of}
-use Rattle.closing.proofs.EntryWords.{EntryTo, ClauseStands, entry-within, entry-to-none, entry-to-all, entry-to-left, entry-to-clause, entry-to-more}
+use Rattle.papers.specs.Reading.{program_in}
+use Rattle.lanes.proofs.WordLaws.{literals_of}
+use Rattle.closing.proofs.EntryWords.{EntryTo, ClauseStands, entry_within, entry_to_none, entry_to_all, entry_to_left, entry_to_clause, entry_to_more}
 use Rattle.closing.proofs.falsity.entry_word.Statement.{statement}
 use Rattle.closing.proofs.falsity.entry_word.Tie as tie
 
 abbrev invariant-loop : tie.invariant-loop
-invariant-loop file rows place truth falses lanes end word₀ at₀ word at = EntryTo (programIn file) (get_or rows place 0) rows truth falses lanes end at word
+invariant-loop file rows place truth falses lanes end word₀ at₀ word at = EntryTo (program_in file) (get_or rows place 0) rows truth falses lanes end at word
 
 abbrev decreases-loop : tie.decreases-loop
 decreases-loop file rows place truth falses lanes end word₀ at₀ word at = end - at
@@ -25,7 +25,7 @@ decreases-loop file rows place truth falses lanes end word₀ at₀ word at = en
 within : (s : tie.Start invariant-loop decreases-loop) → s.args.place + 2 + get_or s.args.rows.now (s.args.place + 1) 0 ≤ length s.args.rows.now
 within s =
     let a = s.args in
-    entry-within (programIn a.file.now) a.rows.now a.place a.truth.now a.falses.now a.lanes s.requires
+    entry_within (program_in a.file.now) a.rows.now a.place a.truth.now a.falses.now a.lanes s.requires
 
 -- ---- a clause
 
@@ -40,11 +40,11 @@ module _ (c : tie.Else1 invariant-loop decreases-loop) where
   at = c.before.before.loop.at
 
   -- It stands there whole.
-  stands : ClauseStands (judged (programIn start.args.file.now).atoms) rows at
+  stands : ClauseStands (judged (program_in start.args.file.now).atoms) rows at
   stands =
       let a = start.args in
       let l = c.before.before.loop in
-      entry-to-clause (programIn a.file.now) rows a.place a.truth.now a.falses.now a.lanes start.pre
+      entry_to_clause (program_in a.file.now) rows a.place a.truth.now a.falses.now a.lanes start.pre
       (a.place + 2 + c.before.before.before.number_in.result) l.at l.word l.invariant (omega arith)
 
 -- Its literals are a part of the rows.
@@ -80,7 +80,7 @@ loop-holds : tie.Need-loop-init invariant-loop decreases-loop
 loop-holds c =
     let s = c.before.before.before in
     let a = s.args in
-    entry-to-none (programIn a.file.now) a.rows.now a.place a.truth.now a.falses.now a.lanes s.requires
+    entry_to_none (program_in a.file.now) a.rows.now a.place a.truth.now a.falses.now a.lanes s.requires
     (a.place + 2 + c.number_in.result) (a.place + 2) refl (ap (λ (k : ℕ). a.place + 2 + k) c.number_in.ensures.0)
 
 returns : tie.Need-returns invariant-loop decreases-loop
@@ -88,7 +88,7 @@ returns c =
     let s = c.before.before.before.before.before.before in
     let a = s.args in
     let l = c.before.before.loop in
-    entry-to-left (programIn a.file.now) a.rows.now a.place a.truth.now a.falses.now a.lanes s.requires
+    entry_to_left (program_in a.file.now) a.rows.now a.place a.truth.now a.falses.now a.lanes s.requires
     (a.place + 2 + c.before.before.before.number_in.result) l.at l.word l.invariant c.if1.true
 
 add_start : tie.Need-overflow-add-start invariant-loop decreases-loop
@@ -114,8 +114,8 @@ part-clause-word-end c = let w = whole c in omega arith
 
 clause-word-requires : tie.Need-clause-word-requires invariant-loop decreases-loop
 clause-word-requires c κs =
-    let few = (start c.before.before).pre.valid.fewAtoms in
-    rw (part c.before) (literals-of (omega arith) (stands c.before.before).below)
+    let few = (start c.before.before).pre.valid.few_atoms in
+    rw (part c.before) (literals_of (omega arith) (stands c.before.before).below)
 
 loop-less : tie.Need-loop-smaller invariant-loop decreases-loop
 loop-less c = let h = c.before.before.before.before.loop-test.true in omega arith
@@ -126,7 +126,7 @@ loop-again c =
     let s = start found.before in
     let a = s.args in
     let l = found.before.before.before.loop in
-    entry-to-more (programIn a.file.now) a.rows.now a.place a.truth.now a.falses.now a.lanes s.pre
+    entry_to_more (program_in a.file.now) a.rows.now a.place a.truth.now a.falses.now a.lanes s.pre
     (a.place + 2 + found.before.before.before.before.number_in.result) l.at l.word l.invariant (omega arith)
     (l.at + 1 + found.number-in2.result / 2) c.clause-word.result (ap (λ (k : ℕ). l.at + 1 + k / 2) found.number-in2.ensures.0)
     c.clause-word.ensures
@@ -136,11 +136,11 @@ returns-2 c =
     let s = c.before.before.before.before.before in
     let a = s.args in
     let l = c.before.loop in
-    entry-to-all (programIn a.file.now) a.rows.now a.place a.truth.now a.falses.now a.lanes s.requires
+    entry_to_all (program_in a.file.now) a.rows.now a.place a.truth.now a.falses.now a.lanes s.requires
     (a.place + 2 + c.before.before.number_in.result) l.at l.word l.invariant (omega arith)
 
-pub entry-word-spec : {M : Type 1} → statement M
-entry-word-spec =
+pub entry_word_spec : {M : Type 1} → statement M
+entry_word_spec =
     tie.close
     (tie.spec
     invariant-loop

@@ -8,18 +8,18 @@ use Prim.Native.Nat.{ℕ}
 use native.Mathlib.Omega.{arith}
 use lib.ListN.{length}
 use Rattle.papers.specs.Program.{Rule}
-use Rattle.closing.specs.Closing.{rulesIn, Judged, Passed}
-use Rattle.closing.proofs.ClosingLaws.{rows-judged, length-rules, Going, leftOver, going-starts, going_on, going_less, going-closed}
-use Rattle.closing.proofs.TrueParts.{single-closed}
+use Rattle.closing.specs.Closing.{rules_in, Judged, Passed}
+use Rattle.closing.proofs.ClosingLaws.{rows_judged, length_rules, Going, left_over, going_starts, going_on, going_less, going_closed}
+use Rattle.closing.proofs.TrueParts.{single_closed}
 use Rattle.closing.proofs.truth.close_part.Statement.{statement}
 use Rattle.closing.proofs.truth.close_part.Tie as tie
 
 abbrev invariant-loop : tie.invariant-loop
 invariant-loop rows visits truth₀ falses going₀ truth going =
-    (n : ℕ) → Judged n (rulesIn rows visits) → Going n (rulesIn rows visits) falses truth₀ truth going
+    (n : ℕ) → Judged n (rules_in rows visits) → Going n (rules_in rows visits) falses truth₀ truth going
 
 abbrev decreases-loop : tie.decreases-loop
-decreases-loop rows visits truth₀ falses going₀ truth going = leftOver truth going
+decreases-loop rows visits truth₀ falses going₀ truth going = left_over truth going
 
 -- A pass over all rules.
 module _ (c : tie.After-close-pass invariant-loop decreases-loop) where
@@ -33,12 +33,12 @@ module _ (c : tie.After-close-pass invariant-loop decreases-loop) where
   start = entered.before.before.before.before
 
   abbrev rules : List Rule
-  rules = rulesIn start.args.rows.now start.args.visits.now
+  rules = rules_in start.args.rows.now start.args.visits.now
 
   passed : Passed rules start.args.falses.now head.loop.truth (length rules) c.close-pass.new.1.1.0 c.close-pass.result
   passed =
       subst (λ (n : ℕ). Passed rules start.args.falses.now head.loop.truth n c.close-pass.new.1.1.0 c.close-pass.result)
-      (sym (length-rules start.args.rows.now start.args.visits.now)) c.close-pass.ensures
+      (sym (length_rules start.args.rows.now start.args.visits.now)) c.close-pass.ensures
 
 lent-known-requires : tie.Need-lent-known-requires invariant-loop decreases-loop
 lent-known-requires c κs = search rules
@@ -58,13 +58,13 @@ returns : tie.Need-returns invariant-loop decreases-loop
 returns c =
     let known = c.before.before.before.before.before in
     let s = known.before.before.before.before in
-    single-closed s.args.rows.now s.args.visits.now c.before.before.before.before.if1.true s.requires known.lent-known.ensures
+    single_closed s.args.rows.now s.args.visits.now c.before.before.before.before.if1.true s.requires known.lent-known.ensures
     (rw c.before.before.place_of.ensures at c.close-rule.ensures)
 
 loop-holds : tie.Need-loop-init invariant-loop decreases-loop
 loop-holds c =
     let a = c.before.before.before.before.before.args in
-    λ n j. going-starts n (rulesIn a.rows.now a.visits.now) a.falses.now a.truth.now j c.before.lent-known.ensures
+    λ n j. going_starts n (rules_in a.rows.now a.visits.now) a.falses.now a.truth.now j c.before.lent-known.ensures
 
 close-pass-requires : tie.Need-close-pass-requires invariant-loop decreases-loop
 close-pass-requires c κs = search rules
@@ -72,7 +72,7 @@ close-pass-requires c κs = search rules
 loop-less : tie.Need-loop-smaller invariant-loop decreases-loop
 loop-less c =
     let a = (start c).args in
-    let j = rows-judged a.rows.now a.visits.now (start c).requires in
+    let j = rows_judged a.rows.now a.visits.now (start c).requires in
     going_less 513 (rules c) a.falses.now a.truth.now j (entered c).lent-known.ensures ((head c).loop.invariant 513 j) (passed c)
     c.before.before.loop-test.true
 
@@ -85,11 +85,11 @@ returns-2 : tie.Need-returns-2 invariant-loop decreases-loop
 returns-2 c =
     let known = c.before.before.before in
     let s = known.before.before.before.before in
-    going-closed known.lent-known.ensures (rows-judged s.args.rows.now s.args.visits.now s.requires)
+    going_closed known.lent-known.ensures (rows_judged s.args.rows.now s.args.visits.now s.requires)
     (rw c.loop-test.false at c.before.loop.invariant)
 
-pub close-part-spec : {M : Type 1} → statement M
-close-part-spec =
+pub close_part_spec : {M : Type 1} → statement M
+close_part_spec =
     tie.close
     (tie.spec
     invariant-loop

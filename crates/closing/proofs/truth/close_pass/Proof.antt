@@ -6,14 +6,14 @@ use mathlib.Core.Logic.{⊎_elim}
 use Prim.Native.Nat.{◌-◌, ◌≤◌}
 use native.Mathlib.Omega.{arith}
 use lib.ListN.{length}
-use Rattle.closing.specs.Closing.{rulesIn, Passed, begun}
-use Rattle.closing.proofs.ClosingLaws.{rule-visited, then-changed, then-kept}
+use Rattle.closing.specs.Closing.{rules_in, Passed, begun}
+use Rattle.closing.proofs.ClosingLaws.{rule_visited, then_changed, then_kept}
 use Rattle.closing.proofs.truth.close_pass.Statement.{statement}
 use Rattle.closing.proofs.truth.close_pass.Tie as tie
 
 abbrev invariant-loop : tie.invariant-loop
 invariant-loop rows visits truth₀ falses count changed₀ i₀ truth changed i =
-    (i ≤ count) × ((count ≡ length visits) × Passed (rulesIn rows visits) falses truth₀ i truth changed)
+    (i ≤ count) × ((count ≡ length visits) × Passed (rules_in rows visits) falses truth₀ i truth changed)
 
 abbrev decreases-loop : tie.decreases-loop
 decreases-loop rows visits truth₀ falses count changed₀ i₀ truth changed i = count - i
@@ -46,14 +46,14 @@ loop-again c =
     let head = c.before.before.before.before.before.before in
     let l = head.loop in
     let a = head.before.before.before.args in
-    let here = rule-visited a.rows.now a.visits.now l.i (omega arith) in
+    let here = rule_visited a.rows.now a.visits.now l.i (omega arith) in
     let one = rw (c.before.before.before.place_of.ensures, ← here) at c.before.close-rule.ensures in (
       omega arith,
       (
         l.invariant.1.0,
         ⊎_elim
-            (λ w. rw w.1 (then-changed l.invariant.1.1 one w.0.taken))
-            (λ w. rw w.1 (then-kept l.invariant.1.1 one w.0.left))
+            (λ w. rw w.1 (then_changed l.invariant.1.1 one w.0.taken))
+            (λ w. rw w.1 (then_kept l.invariant.1.1 one w.0.left))
             c.if1.branch,
       ),
     )
@@ -65,8 +65,8 @@ returns c =
     let e : at.i ≡ length a.visits.now = omega arith in
     rw e at at.invariant.1.1
 
-pub close-pass-spec : {M : Type 1} → statement M
-close-pass-spec =
+pub close_pass_spec : {M : Type 1} → statement M
+close_pass_spec =
     tie.close
     (tie.spec
     invariant-loop

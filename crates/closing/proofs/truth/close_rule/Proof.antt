@@ -3,14 +3,14 @@
 use borrow.Author.Rules.{rules}
 use Prim.Native.Nat.{◌<◌}
 use native.Mathlib.Omega.{arith}
-use Rattle.closing.specs.Closing.{ruleIn}
-use Rattle.closing.proofs.ClosingLaws.{body-part}
+use Rattle.closing.specs.Closing.{rule_in}
+use Rattle.closing.proofs.ClosingLaws.{body_part}
 use Rattle.closing.proofs.truth.close_rule.Statement.{statement}
 use Rattle.closing.proofs.truth.close_rule.Tie as tie
 
 -- There is a word for the head.
 few : (c : tie.After-objective-in) → c.objective-in.result.0 < 513
-unfolding ruleIn
+unfolding rule_in
 few c = omega (arith, c.objective-in.ensures, c.before.before.requires.head)
 
 objective-in-requires : tie.Need-objective-in-requires
@@ -52,7 +52,7 @@ part-body-word-end c = search rules
 body-word-requires : tie.Need-body-word-requires
 body-word-requires c κs =
     let s = c.before.before.before.before.before.before.before in
-    rw (body-part s.args.rows.now s.args.place c.before.before.number_in.result c.before.before.number_in.ensures.0) s.requires.body
+    rw (body_part s.args.rows.now s.args.place c.before.before.number_in.result c.before.before.number_in.ensures.0) s.requires.body
 
 mul-truth : tie.Need-overflow-mul-truth
 mul-truth c = omega (arith, few c.before.before.before.before.before.before)
@@ -61,7 +61,7 @@ element-write-truth : tie.Need-element-write-truth
 element-write-truth c = few c.before.before.before.before.before.before
 
 returns : tie.Need-returns
-unfolding ruleIn
+unfolding rule_in
 returns c =
     let s = c.before.before.before.before.before.before.before.before in
     let a = s.args in
@@ -72,13 +72,13 @@ returns c =
       word = c.body-word.result;
       fits = omega arith;
       others = rw head at c.before.before.before.before.other-lanes.ensures;
-      holds = rw (body-part a.rows.now a.place size.result size.ensures.0) at c.body-word.ensures;
+      holds = rw (body_part a.rows.now a.place size.result size.ensures.0) at c.body-word.ensures;
       is = rw head;
       told = rw head;
     }
 
-pub close-rule-spec : {M : Type 1} → statement M
-close-rule-spec =
+pub close_rule_spec : {M : Type 1} → statement M
+close_rule_spec =
     tie.close
     (tie.spec
     objective-in-requires

@@ -8,16 +8,16 @@ use native.Mathlib.Omega.{arith}
 use lib.ListN.{length, take}
 use lib.Seq.{take_all}
 use Rattle.parts.specs.Parts.{Apart, PartEnd}
-use Rattle.parts.proofs.MarkedParts.{apart_none, apart-end}
-use Rattle.closing.specs.Closing.{rulesIn, ClosedTrue}
-use Rattle.closing.proofs.TrueParts.{none-closed, part-stands, part-closed}
+use Rattle.parts.proofs.MarkedParts.{apart_none, apart_end}
+use Rattle.closing.specs.Closing.{rules_in, ClosedTrue}
+use Rattle.closing.proofs.TrueParts.{none_closed, part_stands, part_closed}
 use Rattle.closing.proofs.truth.close_true.Statement.{statement}
 use Rattle.closing.proofs.truth.close_true.Tie as tie
 
 abbrev invariant-loop : tie.invariant-loop
 invariant-loop rows visits truth₀ falses count start₀ truth start =
     (start ≤ count)
-    × ((count ≡ length visits) × (ClosedTrue (rulesIn rows (take start visits)) falses truth₀ truth × Apart 0 (length visits) rows visits start))
+    × ((count ≡ length visits) × (ClosedTrue (rules_in rows (take start visits)) falses truth₀ truth × Apart 0 (length visits) rows visits start))
 
 abbrev decreases-loop : tie.decreases-loop
 decreases-loop rows visits truth₀ falses count start₀ truth start = count - start
@@ -30,7 +30,7 @@ loop-holds c =
     let a = c.before.before.before.before.args in
     let rows = a.rows.now in
     let visits = a.visits.now in
-    (omega arith, (search rules, (none-closed rows visits c.lent-known.ensures, apart_none 0 (length visits) rows visits)))
+    (omega arith, (search rules, (none_closed rows visits c.lent-known.ensures, apart_none 0 (length visits) rows visits)))
 
 part-end-requires : tie.Need-part-end-requires invariant-loop decreases-loop
 part-end-requires c κs = search rules
@@ -62,7 +62,7 @@ close-part-requires : tie.Need-close-part-requires invariant-loop decreases-loop
 close-part-requires c κs =
     let p = c.before.before in
     let s = start p in
-    part-stands s.args.rows.now s.args.visits.now (head p).loop.start p.part-end.result (ends p) s.pre.0
+    part_stands s.args.rows.now s.args.visits.now (head p).loop.start p.part-end.result (ends p) s.pre.0
 
 loop-less : tie.Need-loop-smaller invariant-loop decreases-loop
 loop-less c = let p = c.before.before.before in omega (arith, (ends p).later, (ends p).within)
@@ -78,8 +78,8 @@ loop-again c =
       (
         at.inv.1.0,
         (
-          part-closed rows visits at.start p.part-end.result (ends p) at.inv.1.1.1 at.inv.1.1.0 c.close-part.ensures,
-          apart-end 0 rows visits at.start p.part-end.result s.pre.1 (ends p),
+          part_closed rows visits at.start p.part-end.result (ends p) at.inv.1.1.1 at.inv.1.1.0 c.close-part.ensures,
+          apart_end 0 rows visits at.start p.part-end.result s.pre.1 (ends p),
         ),
       ),
     )
@@ -91,8 +91,8 @@ returns c =
     let e = take_all at.start a.visits.now (omega arith) in
     rw e at at.invariant.1.1.0
 
-pub close-true-spec : {M : Type 1} → statement M
-close-true-spec =
+pub close_true_spec : {M : Type 1} → statement M
+close_true_spec =
     tie.close
     (tie.spec
     invariant-loop

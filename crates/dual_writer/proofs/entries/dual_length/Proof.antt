@@ -6,17 +6,17 @@ use Prim.Native.Nat.{ℕ, ◌+◌, ◌-◌, ◌≤◌}
 use native.Mathlib.Omega.{arith}
 use Rattle.literals.specs.Numbering.{judged}
 use Rattle.papers.specs.Program.{Program}
-use Rattle.papers.specs.Reading.{programIn}
-use Rattle.dual.specs.Length.{entriesLength, dualLength}
-use Rattle.papers.proofs.FileFacts.{program-valid, atoms_are, few-atoms}
-use Rattle.dual.proofs.Bound.{dual-bound}
+use Rattle.papers.specs.Reading.{program_in}
+use Rattle.dual.specs.Length.{entries_length, dual_length}
+use Rattle.papers.proofs.FileFacts.{program_valid, atoms_are, few_atoms_lem}
+use Rattle.dual.proofs.Bound.{dual_bound}
 use Rattle.dual_writer.proofs.EntryLaws.{entries_next, entries_none}
 use Rattle.dual_writer.proofs.entries.dual_length.Statement.{statement}
 use Rattle.dual_writer.proofs.entries.dual_length.Tie as tie
 
 abbrev invariant-loop : tie.invariant-loop
 invariant-loop file contents places first next judged total₀ o₀ total o =
-    (o ≤ judged) × (entriesLength (programIn file) judged 0 ≡ total + entriesLength (programIn file) (judged - o) o)
+    (o ≤ judged) × (entries_length (program_in file) judged 0 ≡ total + entries_length (program_in file) (judged - o) o)
 
 abbrev decreases-loop : tie.decreases-loop
 decreases-loop file contents places first next judged total₀ o₀ total o = judged - o
@@ -28,7 +28,7 @@ module _ (c : tie.After-judged invariant-loop decreases-loop) where
   start = c.before.before
 
   abbrev program : Program
-  program = programIn start.args.file.now
+  program = program_in start.args.file.now
 
   abbrev count : ℕ
   count = c.judged.result
@@ -36,13 +36,13 @@ module _ (c : tie.After-judged invariant-loop decreases-loop) where
   counted : count ≡ judged program.atoms
   counted = c.judged.ensures ∙ ap judged (sym (atoms_are start.args.file.now start.args.contents start.pre.walked.answer))
 
-  length-is : dualLength program ≡ entriesLength program count 0 + 3
-  unfolding dualLength
-  length-is = ap (λ (n : ℕ). entriesLength program n 0 + 3) (sym counted)
+  length_is : dual_length program ≡ entries_length program count 0 + 3
+  unfolding dual_length
+  length_is = ap (λ (n : ℕ). entries_length program n 0 + 3) (sym counted)
 
   -- All of them fit.
-  whole : entriesLength program count 0 + 3 ≤ 52488
-  whole = rw (← length-is) (dual-bound program (program-valid start.args.file.now start.args.contents start.pre.walked.answer))
+  whole : entries_length program count 0 + 3 ≤ 52488
+  whole = rw (← length_is) (dual_bound program (program_valid start.args.file.now start.args.contents start.pre.walked.answer))
 
 -- ---- in a turn of the loop
 
@@ -53,8 +53,8 @@ module _ (c : tie.After-entry-length invariant-loop decreases-loop) where
   abbrev known : tie.After-judged invariant-loop decreases-loop
   known = head.before
 
-  next : head.loop.total + entriesLength (program known) (count known - head.loop.o) head.loop.o
-      ≡ head.loop.total + c.entry_length.result + entriesLength (program known) (count known - (head.loop.o + 1)) (head.loop.o + 1)
+  next : head.loop.total + entries_length (program known) (count known - head.loop.o) head.loop.o
+      ≡ head.loop.total + c.entry_length.result + entries_length (program known) (count known - (head.loop.o + 1)) (head.loop.o + 1)
   next = entries_next (program known) (count known) head.loop.o head.loop.total c.before.loop-test.true c.entry_length.ensures.0
 
 judged-requires : tie.Need-judged-requires invariant-loop decreases-loop
@@ -68,7 +68,7 @@ loop-holds c =
 entry-length-requires : tie.Need-entry-length-requires invariant-loop decreases-loop
 entry-length-requires c κs =
     let s = start c.before.before in
-    let few = few-atoms s.args.file.now s.args.contents s.pre.walked.answer in
+    let few = few_atoms_lem s.args.file.now s.args.contents s.pre.walked.answer in
     (s.pre, omega (arith, c.before.before.judged.ensures))
 
 add_total : tie.Need-overflow-add-total invariant-loop decreases-loop
@@ -90,10 +90,10 @@ returns : tie.Need-returns invariant-loop decreases-loop
 returns c =
     let k = c.before.before in
     let z = entries_none (program k) (count k) c.before.loop.o c.loop-test.false in
-    omega (arith, length-is k)
+    omega (arith, length_is k)
 
-pub dual-length-spec : {M : Type 1} → statement M
-dual-length-spec =
+pub dual_length_spec : {M : Type 1} → statement M
+dual_length_spec =
     tie.close
     (tie.spec
     invariant-loop

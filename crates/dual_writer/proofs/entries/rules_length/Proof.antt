@@ -5,16 +5,16 @@ use mathlib.Core.List.{List}
 use Prim.Native.Nat.{ℕ, ◌-◌, ◌≤◌, ◌<◌}
 use native.Mathlib.Omega.{arith}
 use lib.ListN.{length, get_or}
-use Rattle.papers.specs.Program.{Program, allRules, ruleAt}
-use Rattle.papers.specs.Reading.{programIn}
-use Rattle.papers.proofs.FoldsWalked.{few-body}
+use Rattle.papers.specs.Program.{Program, all_rules, rule_at}
+use Rattle.papers.specs.Reading.{program_in}
+use Rattle.papers.proofs.FoldsWalked.{few_body}
 use Rattle.dual.proofs.Folds.{FoldIn}
-use Rattle.dual_writer.proofs.EntryLaws.{Walking, walk-all, walk-starts, walk-done, walk-fold, walk-rises, walk-fact, walk-next}
+use Rattle.dual_writer.proofs.EntryLaws.{Walking, walk_all, walk_starts, walk_done, walk_fold, walk_rises, walk_fact, walk_next}
 use Rattle.dual_writer.proofs.entries.rules_length.Statement.{statement}
 use Rattle.dual_writer.proofs.entries.rules_length.Tie as tie
 
 abbrev invariant-loop : tie.invariant-loop
-invariant-loop file contents places first next at start fold₀ total₀ fold total = Walking (programIn file) next at fold.0 total
+invariant-loop file contents places first next at start fold₀ total₀ fold total = Walking (program_in file) next at fold.0 total
 
 abbrev decreases-loop : tie.decreases-loop
 decreases-loop file contents places first next at start fold₀ total₀ fold total = 1280 - fold.0
@@ -26,7 +26,7 @@ module _ (c : tie.At-loop invariant-loop decreases-loop) where
   start = c.before.before.before
 
   abbrev program : Program
-  program = programIn start.args.file.now
+  program = program_in start.args.file.now
 
   abbrev next : List ℕ
   next = start.args.next.now
@@ -43,14 +43,14 @@ module _ (c : tie.Then1 invariant-loop decreases-loop) where
   abbrev head : tie.At-loop invariant-loop decreases-loop
   head = c.before.before
 
-  here : FoldIn (allRules (program head)) (o head) (fold head)
-  here = walk-fold (program head) (next head) (o head) (fold head) head.loop.total head.loop.inv c.if1.true
+  here : FoldIn (all_rules (program head)) (o head) (fold head)
+  here = walk_fold (program head) (next head) (o head) (fold head) head.loop.total head.loop.inv c.if1.true
 
-  few : length (ruleAt (program head) (fold head)).body ≤ 16
-  few = few-body (start head).args.file.now (start head).args.contents (start head).pre.0.walked.answer (fold head) here.below
+  few : length (rule_at (program head) (fold head)).body ≤ 16
+  few = few_body (start head).args.file.now (start head).args.contents (start head).pre.0.walked.answer (fold head) here.below
 
   rises : fold head < get_or (next head) (fold head) 0
-  rises = walk-rises (program head) (next head) (o head) (fold head) head.loop.total head.loop.inv c.if1.true
+  rises = walk_rises (program head) (next head) (o head) (fold head) head.loop.total head.loop.inv c.if1.true
 
 mul-start : tie.Need-overflow-mul-start invariant-loop decreases-loop
 mul-start c = omega arith
@@ -62,7 +62,7 @@ loop-holds : tie.Need-loop-init invariant-loop decreases-loop
 loop-holds c =
     let s = c.before.before in
     let a = s.args in
-    (walk-starts (programIn a.file.now) a.first.now a.next.now a.o.0 s.requires.0.chains s.requires.1)
+    (walk_starts (program_in a.file.now) a.first.now a.next.now a.o.0 s.requires.0.chains s.requires.1)
 
 body-of-requires : tie.Need-body-of-requires invariant-loop decreases-loop
 body-of-requires c κs = ((start (head c)).pre.0.walked, (here c).below)
@@ -71,8 +71,8 @@ returns : tie.Need-returns invariant-loop decreases-loop
 returns c =
     let turn = c.before.before in
     let h = head turn in (
-      walk-fact (program h) (next h) (o h) (fold h) h.loop.total h.loop.inv turn.if1.true (omega (arith, c.before.body_of.ensures.size))
-          ∙ walk-all (program h) (o h),
+      walk_fact (program h) (next h) (o h) (fold h) h.loop.total h.loop.inv turn.if1.true (omega (arith, c.before.body_of.ensures.size))
+          ∙ walk_all (program h) (o h),
       omega arith,
     )
 
@@ -96,17 +96,17 @@ loop-again c =
     let h = head turn in
     let body = c.before.before.body_of.ensures in
     rw c.next-fold.ensures
-    (walk-next (program h) (next h) (o h) (fold h) h.loop.total h.loop.inv turn.if1.true _ body.size c.before.if2.false
+    (walk_next (program h) (next h) (o h) (fold h) h.loop.total h.loop.inv turn.if1.true _ body.size c.before.if2.false
     (omega (arith, body.size, few turn)))
 
 returns-2 : tie.Need-returns-2 invariant-loop decreases-loop
 returns-2 c =
     let h = c.before.before in
-    let d = walk-done (program h) (next h) (o h) (fold h) h.loop.total h.loop.invariant c.if1.false in
-    (d.0 ∙ walk-all (program h) (o h), d.1)
+    let d = walk_done (program h) (next h) (o h) (fold h) h.loop.total h.loop.invariant c.if1.false in
+    (d.0 ∙ walk_all (program h) (o h), d.1)
 
-pub rules-length-spec : {M : Type 1} → statement M
-rules-length-spec =
+pub rules_length_spec : {M : Type 1} → statement M
+rules_length_spec =
     tie.close
     (tie.spec
     invariant-loop

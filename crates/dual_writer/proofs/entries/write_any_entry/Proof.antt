@@ -1,10 +1,10 @@
 -- `dual_writer::entries::write_any_entry` meets its contract.
 -- Assumes nothing.
 use mathlib.Core.Path.{◌≡◌}
-use Rattle.papers.specs.Reading.{programIn}
-use Rattle.dual.specs.Table.{entry, entryIfAny}
-use Rattle.dual.specs.TableEncoding.{encodeFields}
-use Rattle.dual_writer.proofs.TableWriting.{no-entry, some-entry}
+use Rattle.papers.specs.Reading.{program_in}
+use Rattle.dual.specs.Table.{entry, entry_if_any}
+use Rattle.dual.specs.TableEncoding.{encode_fields}
+use Rattle.dual_writer.proofs.TableWriting.{no_entry, some_entry}
 use borrow.Author.Rules.{rules}
 use Rattle.dual_writer.proofs.entries.write_any_entry.Statement.{statement}
 use Rattle.dual_writer.proofs.entries.write_any_entry.Tie as tie
@@ -15,18 +15,18 @@ module _ (c : tie.Else1) where
   abbrev start : tie.Start
   start = c.before.before.before.before
 
-  is : entryIfAny (programIn start.args.file.now) start.args.o.0
-      ≡ entry (programIn start.args.file.now) start.args.o.0
-  is = some-entry (programIn start.args.file.now) start.args.o.0 c.before.entry_length.ensures.0 c.if1.false
+  is : entry_if_any (program_in start.args.file.now) start.args.o.0
+      ≡ entry (program_in start.args.file.now) start.args.o.0
+  is = some_entry (program_in start.args.file.now) start.args.o.0 c.before.entry_length.ensures.0 c.if1.false
 
 entry-length-requires : tie.Need-entry-length-requires
 entry-length-requires c κs = search rules
 
 returns : tie.Need-returns
-unfolding encodeFields
+unfolding encode_fields
 returns c =
     let a = c.before.before.before.before.args in
-    let none = no-entry (programIn a.file.now) a.o.0 c.before.entry_length.ensures.0 c.if1.true in
+    let none = no_entry (program_in a.file.now) a.o.0 c.before.entry_length.ensures.0 c.if1.true in
     (rw none, rw none)
 
 write-entry-requires : tie.Need-write-entry-requires
@@ -43,6 +43,6 @@ returns-2 c =
     let e = is c.before.before.before.before in
     (rw e wrote.ensures.0, rw e wrote.ensures.1)
 
-pub write-any-entry-spec : {M : Type 1} → statement M
-write-any-entry-spec =
+pub write_any_entry_spec : {M : Type 1} → statement M
+write_any_entry_spec =
     tie.close (tie.spec entry-length-requires returns write-entry-requires same_length returns-2)

@@ -3,29 +3,29 @@
 use lib.ListN.{length-drop}
 use borrow.Rule.Slice.PartMut.{same_len_mid}
 use Rattle.papers.proofs.NumbersWalked.{to_end}
-use Rattle.dual.proofs.FilledLaws.{put-end}
+use Rattle.dual.proofs.FilledLaws.{put_end}
 use mathlib.Core.Path.{◌≡◌, refl, ap, ◌∙◌}
 use mathlib.Core.List.{List, ◌∷◌}
 use Prim.Native.Nat.{ℕ, ◌+◌, ◌-◌, ◌*◌, ◌≤◌, ◌<◌}
 use native.Mathlib.Omega.{arith}
 use lib.ListN.{length, get_or, drop}
-use Rattle.papers.specs.Program.{Program, allRules}
-use Rattle.papers.specs.Reading.{programIn}
-use Rattle.papers.specs.Encoding.{encodeNumbers, encodeField}
-use Rattle.papers.proofs.FoldsWalked.{few-body}
-use Rattle.dual.specs.Table.{foldsOf}
-use Rattle.dual_writer.specs.Chains.{Chain, foldsAt}
+use Rattle.papers.specs.Program.{Program, all_rules}
+use Rattle.papers.specs.Reading.{program_in}
+use Rattle.papers.specs.Encoding.{encode_numbers, encode_field}
+use Rattle.papers.proofs.FoldsWalked.{few_body}
+use Rattle.dual.specs.Table.{folds_of}
+use Rattle.dual_writer.specs.Chains.{Chain, folds_at}
 use Rattle.dual.specs.Bytes.{filled}
 use Rattle.dual.proofs.Folds.{FoldIn}
-use Rattle.dual.proofs.AllEntries.{foldBytes}
-use Rattle.dual_writer.proofs.EntryWriting.{oneFold, folds-there, Entered, entered-none, entered-done, entered-fold, entered-rises}
-use Rattle.dual_writer.proofs.EntryWriting.{entered-room, entered-next, one-length, entry-parts, entry-written}
+use Rattle.dual.proofs.AllEntries.{fold_bytes}
+use Rattle.dual_writer.proofs.EntryWriting.{one_fold, folds_there, Entered, entered_none, entered_done, entered_fold, entered_rises}
+use Rattle.dual_writer.proofs.EntryWriting.{entered_room, entered_next, one_length, entry_parts, entry_written}
 use Rattle.dual_writer.proofs.entries.write_entry.Statement.{statement}
 use Rattle.dual_writer.proofs.entries.write_entry.Tie as tie
 
 abbrev invariant-loop : tie.invariant-loop
 invariant-loop buffer₀ file contents places first next at number end₀ fold₀ buffer end fold =
-    Entered (programIn file) next at end₀ buffer₀ buffer fold.0 end × (length buffer ≡ length buffer₀)
+    Entered (program_in file) next at end₀ buffer₀ buffer fold.0 end × (length buffer ≡ length buffer₀)
 
 abbrev decreases-loop : tie.decreases-loop
 decreases-loop buffer₀ file contents places first next at number end₀ fold₀ buffer end fold = 1280 - fold.0
@@ -34,13 +34,13 @@ decreases-loop buffer₀ file contents places first next at number end₀ fold�
 
 module _ (c : tie.Start invariant-loop decreases-loop) where
   abbrev program : Program
-  program = programIn c.args.file.now
+  program = program_in c.args.file.now
 
   abbrev folds : List ℕ
-  folds = foldsOf program c.args.o.0
+  folds = folds_of program c.args.o.0
 
-  followed : foldsAt c.args.next.now (get_or c.args.first.now c.args.o.0 0) ≡ folds
-  followed = folds-there program c.args.first.now c.args.next.now c.args.o.0 c.requires.0.chains c.requires.1.0
+  followed : folds_at c.args.next.now (get_or c.args.first.now c.args.o.0 0) ≡ folds
+  followed = folds_there program c.args.first.now c.args.next.now c.args.o.0 c.requires.0.chains c.requires.1.0
 
   chain : Chain c.args.next.now (get_or c.args.first.now c.args.o.0 0) folds
   chain = c.requires.0.chains.at c.args.o.0 c.requires.1.0
@@ -55,8 +55,8 @@ module _ (c : tie.After-write-literal invariant-loop decreases-loop) where
   base = rw (followed start) at c.write-literal.ensures.0
 
   -- There is room for the folds' fields.
-  fits : c.write-literal.result + length (foldBytes (allRules (program start)) (folds start)) ≤ length c.write-literal.new.0
-  fits = omega (arith, base, entry-parts (program start) start.args.o.0, c.write-literal.auto.0)
+  fits : c.write-literal.result + length (fold_bytes (all_rules (program start)) (folds start)) ≤ length c.write-literal.new.0
+  fits = omega (arith, base, entry_parts (program start) start.args.o.0, c.write-literal.auto.0)
 
 -- ---- in a turn of the loop
 
@@ -69,17 +69,17 @@ module _ (c : tie.Then1 invariant-loop decreases-loop) where
 
   -- The fold's field.
   abbrev field : List ℕ
-  field = oneFold (allRules (program (start literal))) head.loop.fold.0
+  field = one_fold (all_rules (program (start literal))) head.loop.fold.0
 
-  of-literal : FoldIn (allRules (program (start literal))) (start literal).args.o.0 head.loop.fold.0
-  of-literal = entered-fold _ _ _ _ _ _ _ _ head.loop.inv.0 (fits literal) c.if1.true
+  of_literal : FoldIn (all_rules (program (start literal))) (start literal).args.o.0 head.loop.fold.0
+  of_literal = entered_fold _ _ _ _ _ _ _ _ head.loop.inv.0 (fits literal) c.if1.true
 
   rises : head.loop.fold.0 < get_or (start literal).args.next.now head.loop.fold.0 0
-  rises = entered-rises _ _ _ _ _ _ _ _ head.loop.inv.0 (fits literal) c.if1.true
+  rises = entered_rises _ _ _ _ _ _ _ _ head.loop.inv.0 (fits literal) c.if1.true
 
   -- There is room for it.
   room : head.loop.end + length field ≤ length head.loop.buffer
-  room = omega (arith, entered-room _ _ _ _ _ _ _ _ head.loop.inv.0 (fits literal) c.if1.true, head.loop.inv.1)
+  room = omega (arith, entered_room _ _ _ _ _ _ _ _ head.loop.inv.0 (fits literal) c.if1.true, head.loop.inv.1)
 
 -- ---- once the fold's field is written
 
@@ -92,7 +92,7 @@ module _ (c : tie.After-write-fold invariant-loop decreases-loop) where
 
   size : c.write-fold.result ≡ length (field turn)
   size =
-      let one = one-length (allRules (program (start (literal turn)))) (head turn).loop.fold.0 in
+      let one = one_length (all_rules (program (start (literal turn)))) (head turn).loop.fold.0 in
       omega (arith, one, c.write-fold.ensures.0, body.body_of.ensures.size)
 
   -- It ends within the buffer.
@@ -109,7 +109,7 @@ write-literal-requires : tie.Need-write-literal-requires invariant-loop decrease
 write-literal-requires c κs =
     let s = c.before.before.before.before in
     let l = ap length (followed s) in
-    let t = entry-parts (program s) s.args.o.0 in
+    let t = entry_parts (program s) s.args.o.0 in
     (rw (followed s) (chain s), (omega arith, omega arith))
 
 loop-holds : tie.Need-loop-init invariant-loop decreases-loop
@@ -117,10 +117,10 @@ loop-holds c =
     let w = c.before.before in
     let s = start w in
     let l = w.write-literal in
-    (entered-none (program s) s.args.next.now s.args.o.0 l.result l.new.0 _ (omega (arith, fits w)) (chain s), refl)
+    (entered_none (program s) s.args.next.now s.args.o.0 l.result l.new.0 _ (omega (arith, fits w)) (chain s), refl)
 
 body-of-requires : tie.Need-body-of-requires invariant-loop decreases-loop
-body-of-requires c κs = ((start (literal c)).pre.0.walked, (of-literal c).below)
+body-of-requires c κs = ((start (literal c)).pre.0.walked, (of_literal c).below)
 
 sub-write-fold : tie.Need-overflow-sub-write-fold invariant-loop decreases-loop
 sub-write-fold c = omega (arith, room c.before)
@@ -139,10 +139,10 @@ write-fold-requires c κs =
     let body = c.before.body_of.ensures in
     let r = room turn in
     let l = ap length body.literals in
-    let o = one-length (allRules (program s)) at.fold.0 in
+    let o = one_length (all_rules (program s)) at.fold.0 in
     let p = ap length (to_end at.end at.buffer) in
     let d = length-drop at.end at.buffer in
-    let few = few-body s.args.file.now s.args.contents s.pre.0.walked.answer at.fold.0 (of-literal turn).below in
+    let few = few_body s.args.file.now s.args.contents s.pre.0.walked.answer at.fold.0 (of_literal turn).below in
     (omega (arith, body.size), (omega arith, (omega (arith, body.size), omega (arith, body.size))))
 
 add-end : tie.Need-overflow-add-end invariant-loop decreases-loop
@@ -162,8 +162,8 @@ loop-again c =
     let buffer = (head t).loop.buffer in
     let part = w.write-fold.new.0 in
     let written : part ≡ filled (field t) (drop end buffer) = rw ((body w).body_of.ensures.literals, to_end end buffer) at w.write-fold.ensures.1 in (
-      rw (put-end end buffer part, c.next-fold.ensures)
-          (entered-next _ _ _ _ _ _ _ _ (head t).loop.inv.0 (fits (literal t)) t.if1.taken part w.write-fold.result written (size w)),
+      rw (put_end end buffer part, c.next-fold.ensures)
+          (entered_next _ _ _ _ _ _ _ _ (head t).loop.inv.0 (fits (literal t)) t.if1.taken part w.write-fold.result written (size w)),
       same_len_mid end (length buffer - end) buffer part w.write-fold.auto.0 ∙ (head t).loop.inv.1,
     )
 
@@ -176,14 +176,14 @@ returns c =
     let s = start w in
     let a = s.args in
     let l = w.write-literal in
-    let d = entered-done _ _ _ _ _ _ _ _ c.before.before.loop.invariant.0 (fits w) c.if1.false in
-    let q : l.new.0 ≡ filled (encodeField 0x08 (encodeNumbers (a.o.0 ∷ folds s))) a.buffer.now = rw (followed s) at l.ensures.1 in (
-      omega (arith, base w, d.0, entry-parts (program s) a.o.0),
-      entry-written (program s) a.o.0 l.result a.buffer.now l.new.0 c.before.before.loop.buffer (base w) s.pre.1.1 q d.1,
+    let d = entered_done _ _ _ _ _ _ _ _ c.before.before.loop.invariant.0 (fits w) c.if1.false in
+    let q : l.new.0 ≡ filled (encode_field 0x08 (encode_numbers (a.o.0 ∷ folds s))) a.buffer.now = rw (followed s) at l.ensures.1 in (
+      omega (arith, base w, d.0, entry_parts (program s) a.o.0),
+      entry_written (program s) a.o.0 l.result a.buffer.now l.new.0 c.before.before.loop.buffer (base w) s.pre.1.1 q d.1,
     )
 
-pub write-entry-spec : {M : Type 1} → statement M
-write-entry-spec =
+pub write_entry_spec : {M : Type 1} → statement M
+write_entry_spec =
     tie.close
     (tie.spec
     invariant-loop

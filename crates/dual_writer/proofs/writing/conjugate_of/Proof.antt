@@ -3,8 +3,8 @@
 use borrow.Author.Rules.{rules}
 use mathlib.Core.Path.{sym, ◌∙◌}
 use native.Mathlib.Omega.{arith}
-use Rattle.literals.proofs.NumberingLaws.{default-sum}
-use Rattle.conjugates.proofs.ConjugateLaws.{default-conjugate-tells, no-default-conjugate-tells}
+use Rattle.literals.proofs.NumberingLaws.{default_sum}
+use Rattle.conjugates.proofs.ConjugateLaws.{default_conjugate_tells, no_default_conjugate_tells}
 use Rattle.dual_writer.proofs.writing.conjugate_of.Statement.{statement}
 use Rattle.dual_writer.proofs.writing.conjugate_of.Tie as tie
 
@@ -21,7 +21,7 @@ returns : tie.Need-returns
 returns c =
     let start = c.before.before.before in
     let past =
-    no-default-conjugate-tells 16384 start.args.l.0 (sym c.before.before.default-conjugate-number.ensures ∙ c.enum_told.given.1)
+    no_default_conjugate_tells 16384 start.args.l.0 (sym c.before.before.default-conjugate-number.ensures ∙ c.enum_told.given.1)
     in absurd (omega (arith, past, start.requires))
 
 returns-2 : tie.Need-returns-2
@@ -30,8 +30,8 @@ returns-2 c =
     let made = told.before.before in
     let start = made.before in
     let l = start.args.l.0 in
-    let tells = default-conjugate-tells 16384 l (sym made.default-conjugate-number.ensures ∙ told.conjugate.given.1) in
-    (tells.1, omega (arith, tells.1, default-sum l, start.requires))
+    let tells = default_conjugate_tells 16384 l (sym made.default-conjugate-number.ensures ∙ told.conjugate.given.1) in
+    (tells.1, omega (arith, tells.1, default_sum l, start.requires))
 
-pub conjugate-of-spec : {M : Type 1} → statement M
-conjugate-of-spec = tie.close (tie.spec default-conjugate-number-requires enum-known-conjugate enum_told returns returns-2)
+pub conjugate_of_spec : {M : Type 1} → statement M
+conjugate_of_spec = tie.close (tie.spec default-conjugate-number-requires enum-known-conjugate enum_told returns returns-2)

@@ -7,9 +7,9 @@ use Prim.Native.Nat.{ℕ, ◌+◌, ◌-◌, ◌*◌, ◌≤◌}
 use native.Mathlib.Omega.{arith}
 use lib.ListN.{length, length-map}
 use Rattle.literals.specs.declared.bodies.BodyLiteral.{BodyLiteral}
-use Rattle.literals.specs.BodyLiterals.{bodyNumber, bodyConjugate, conjugateNumber}
+use Rattle.literals.specs.BodyLiterals.{body_number, body_conjugate, conjugate_number}
 use Rattle.papers.specs.Field.{number_in, numbers}
-use Rattle.dual_writer.proofs.WritingLaws.{field-written, Conjugated, conjugated-none, conjugated-more, conjugated-done}
+use Rattle.dual_writer.proofs.WritingLaws.{field_written, Conjugated, conjugated_none, conjugated_more, conjugated_done}
 use Rattle.dual_writer.proofs.writing.write_fold.Statement.{statement}
 use Rattle.dual_writer.proofs.writing.write_fold.Tie as tie
 
@@ -48,12 +48,12 @@ module _ (c : tie.After-body-number invariant-loop decreases-loop) where
   heading = head.before.before.before
 
   -- It is that of the literal's own.
-  conjugated : c.body-number.result ≡ conjugateNumber (number_in (body heading) (2 * head.loop.i))
-  unfolding conjugateNumber
+  conjugated : c.body-number.result ≡ conjugate_number (number_in (body heading) (2 * head.loop.i))
+  unfolding conjugate_number
   conjugated =
       c.body-number.ensures
-      ∙ ap bodyNumber made.body-conjugate.ensures.0
-      ∙ ap (λ (l : BodyLiteral). bodyNumber (bodyConjugate l)) literal.body-literal-at.ensures.0
+      ∙ ap body_number made.body-conjugate.ensures.0
+      ∙ ap (λ (l : BodyLiteral). body_number (body_conjugate l)) literal.body-literal-at.ensures.0
 
 add-put-heading : tie.Need-overflow-add-put-heading invariant-loop decreases-loop
 add-put-heading c = search rules
@@ -64,7 +64,7 @@ put-heading-requires c κs = search rules
 loop-holds : tie.Need-loop-init invariant-loop decreases-loop
 loop-holds c =
     let w = c.before.before in
-    (omega arith, (conjugated-none w.put-heading.new.0 (body w) (omega (arith, fits w)), refl))
+    (omega arith, (conjugated_none w.put-heading.new.0 (body w) (omega (arith, fits w)), refl))
 
 mul-body-literal-at : tie.Need-overflow-mul-body-literal-at invariant-loop decreases-loop
 mul-body-literal-at c = search rules
@@ -104,7 +104,7 @@ loop-again c =
       omega arith,
       (
         rw put.ensures
-            (conjugated-more _ _ _ _ at.inv.1.0 (fits h) (literal w).before.loop-test.true
+            (conjugated_more _ _ _ _ at.inv.1.0 (fits h) (literal w).before.loop-test.true
             (conjugated w)),
         put.auto.0 ∙ at.inv.1.1,
       ),
@@ -120,15 +120,15 @@ returns : tie.Need-returns invariant-loop decreases-loop
 returns c =
     let w = c.before.before.before.before in
     let a = (start w).args in
-    let l = length-map (numbers (body w)) conjugateNumber in (
+    let l = length-map (numbers (body w)) conjugate_number in (
       refl,
-      field-written 0x09 a.fold.0 (2 + length (body w)) (map conjugateNumber (numbers (body w))) a.buffer.now w.put-heading.new.0
+      field_written 0x09 a.fold.0 (2 + length (body w)) (map conjugate_number (numbers (body w))) a.buffer.now w.put-heading.new.0
           c.before.loop.buffer (omega (arith, (start w).requires.1.1.1)) (omega arith) w.put-heading.ensures
-          (conjugated-done _ _ _ _ c.before.loop.invariant.1.0 (fits w) c.loop-test.false),
+          (conjugated_done _ _ _ _ c.before.loop.invariant.1.0 (fits w) c.loop-test.false),
     )
 
-pub write-fold-spec : {M : Type 1} → statement M
-write-fold-spec =
+pub write_fold_spec : {M : Type 1} → statement M
+write_fold_spec =
     tie.close
     (tie.spec
     invariant-loop

@@ -5,14 +5,14 @@ use mathlib.Core.List.{List}
 use Prim.Native.Nat.{ℕ, ◌+◌, ◌-◌, ◌*◌, ◌≤◌, ◌<◌}
 use native.Mathlib.Omega.{arith}
 use lib.ListN.{length, get_or}
-use Rattle.dual_writer.specs.Chains.{foldsAt}
-use Rattle.dual_writer.proofs.WritingLaws.{field-written, Listed, listed-none, listed-done, listed-room, listed-rises, listed_next}
+use Rattle.dual_writer.specs.Chains.{folds_at}
+use Rattle.dual_writer.proofs.WritingLaws.{field_written, Listed, listed_none, listed_done, listed_room, listed_rises, listed_next}
 use Rattle.dual_writer.proofs.writing.write_literal.Statement.{statement}
 use Rattle.dual_writer.proofs.writing.write_literal.Tie as tie
 
 abbrev invariant-loop : tie.invariant-loop
 invariant-loop buffer₀ next count at₀ fold₀ buffer at fold =
-    Listed next (foldsAt next fold₀.0) buffer₀ buffer fold.0 at × (length buffer ≡ length buffer₀)
+    Listed next (folds_at next fold₀.0) buffer₀ buffer fold.0 at × (length buffer ≡ length buffer₀)
 
 abbrev decreases-loop : tie.decreases-loop
 decreases-loop buffer₀ next count at₀ fold₀ buffer at fold = 1280 - fold.0
@@ -27,7 +27,7 @@ module _ (c : tie.After-put-heading invariant-loop decreases-loop) where
   start = counted.before.before
 
   abbrev folds : List ℕ
-  folds = foldsAt start.args.next.now start.args.start.0
+  folds = folds_at start.args.next.now start.args.start.0
 
   -- There is room for the folds.
   fits : 5 + 2 * length folds ≤ length c.put-heading.new.0
@@ -44,27 +44,27 @@ module _ (c : tie.Then1 invariant-loop decreases-loop) where
 
   -- There is room for one more.
   room : head.loop.at + 1 < length heading.put-heading.last.0
-  room = listed-room _ _ _ _ _ _ head.loop.inv.0 (fits heading) c.if1.true
+  room = listed_room _ _ _ _ _ _ head.loop.inv.0 (fits heading) c.if1.true
 
   rises : head.loop.fold.0 < get_or (start heading).args.next.now head.loop.fold.0 0
-  rises = listed-rises _ _ _ _ _ _ head.loop.inv.0 (fits heading) c.if1.true
+  rises = listed_rises _ _ _ _ _ _ head.loop.inv.0 (fits heading) c.if1.true
 
 fold-count-requires : tie.Need-fold-count-requires invariant-loop decreases-loop
 fold-count-requires c κs = c.before.requires.0
 
 mul-put-heading : tie.Need-overflow-mul-put-heading invariant-loop decreases-loop
-mul-put-heading c = omega (arith, c.before.fold-count.ensures.1)
+mul-put-heading c = omega (arith, c.before.fold_count.ensures.1)
 
 add-put-heading : tie.Need-overflow-add-put-heading invariant-loop decreases-loop
-add-put-heading c = omega (arith, c.before.fold-count.ensures.1)
+add-put-heading c = omega (arith, c.before.fold_count.ensures.1)
 
 put-heading-requires : tie.Need-put-heading-requires invariant-loop decreases-loop
-put-heading-requires c κs = (omega arith, (omega (arith, c.before.fold-count.ensures.1), c.before.before.before.requires.1.1))
+put-heading-requires c κs = (omega arith, (omega (arith, c.before.fold_count.ensures.1), c.before.before.before.requires.1.1))
 
 loop-holds : tie.Need-loop-init invariant-loop decreases-loop
 loop-holds c =
     let w = c.before.before in
-    (listed-none w.put-heading.new.0 (omega (arith, fits w)) (start w).requires.0, refl)
+    (listed_none w.put-heading.new.0 (omega (arith, fits w)) (start w).requires.0, refl)
 
 put-number-requires : tie.Need-put-number-requires invariant-loop decreases-loop
 put-number-requires c κs = (omega (arith, room c.before, (head c.before).loop.inv.1), omega arith)
@@ -96,15 +96,15 @@ returns : tie.Need-returns invariant-loop decreases-loop
 returns c =
     let w = c.before.before.before.before.before in
     let a = (start w).args in
-    let count = (counted w).fold-count in
-    let d = listed-done _ _ _ _ _ _ c.before.before.loop.invariant.0 (fits w) c.if1.false in (
+    let count = (counted w).fold_count in
+    let d = listed_done _ _ _ _ _ _ c.before.before.loop.invariant.0 (fits w) c.if1.false in (
       d.1,
-      field-written 0x08 a.o.0 (2 + 2 * count.result) (folds w) a.buffer.now w.put-heading.new.0 c.before.before.loop.buffer
+      field_written 0x08 a.o.0 (2 + 2 * count.result) (folds w) a.buffer.now w.put-heading.new.0 c.before.before.loop.buffer
           (omega (arith, count.ensures.0)) (omega arith) w.put-heading.ensures d.0,
     )
 
-pub write-literal-spec : {M : Type 1} → statement M
-write-literal-spec =
+pub write_literal_spec : {M : Type 1} → statement M
+write_literal_spec =
     tie.close
     (tie.spec
     invariant-loop

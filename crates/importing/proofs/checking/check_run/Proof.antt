@@ -4,9 +4,9 @@ use mathlib.Core.Path.{◌∙◌, ap}
 use Prim.Native.Nat.{◌-◌}
 use native.Mathlib.Omega.{arith}
 use lib.ListN.{length}
-use Rattle.importing.specs.Passes.{lineNumber}
-use Rattle.importing.proofs.LinesWalked.{lines-over, lines-refused, lines-less, lines-on, no-refusal}
-use Rattle.importing.proofs.RunLaws.{Checking, check-start, check-over, count_small, check-fails, check-on}
+use Rattle.importing.specs.Passes.{line_number}
+use Rattle.importing.proofs.LinesWalked.{lines_over, lines_refused, lines_less, lines_on, no_refusal}
+use Rattle.importing.proofs.RunLaws.{Checking, check_start, check_over, count_small, check_fails, check_on}
 use borrow.Author.Rules.{rules}
 use Rattle.importing.proofs.checking.check_run.Statement.{statement}
 use Rattle.importing.proofs.checking.check_run.Tie as tie
@@ -27,7 +27,7 @@ module _ (c : tie.After-is-fixed invariant-loop decreases-loop) where
   start = read.before.before.before
 
 loop-holds : tie.Need-loop-init invariant-loop decreases-loop
-loop-holds c = check-start _ _ _
+loop-holds c = check_start _ _ _
 
 read-line-requires : tie.Need-read-line-requires invariant-loop decreases-loop
 read-line-requires c κs = c.loop.invariant.walked.within
@@ -50,9 +50,9 @@ returns c =
     let f = c.before.before in
     let s = start f in
     let p = s.pre in
-    check-fails s.args.text.now p.0 (read f).before.loop.invariant p.1.1.0 p.1.1.1.0 (read f).read-line.ensures
+    check_fails s.args.text.now p.0 (read f).before.loop.invariant p.1.1.0 p.1.1.1.0 (read f).read-line.ensures
     f.before.before.read.given.1
-    s.args.flags p.1.0 (c.before.line-number.ensures ∙ ap (lineNumber _ _ _) f.is-fixed.ensures) c.if1.true
+    s.args.flags p.1.0 (c.before.line-number.ensures ∙ ap (line_number _ _ _) f.is-fixed.ensures) c.if1.true
 
 room-after-requires : tie.Need-room-after-requires invariant-loop decreases-loop
 room-after-requires c κs = search rules
@@ -71,8 +71,8 @@ loop-less : tie.Need-loop-smaller invariant-loop decreases-loop
 loop-less c =
     let f = c.before.before.before.before in
     let walked = (read f).before.loop.invariant.walked in
-    let less = lines-less walked (read f).read-line.ensures f.before.before.read.given.1 in
-    let on = lines-on walked (read f).read-line.ensures f.before.before.read.given.1 in
+    let less = lines_less walked (read f).read-line.ensures f.before.before.read.given.1 in
+    let on = lines_on walked (read f).read-line.ensures f.before.before.read.given.1 in
     omega (arith, less, on.within)
 
 loop-again : tie.Need-loop-preserved invariant-loop decreases-loop
@@ -80,9 +80,9 @@ loop-again c =
     let f = c.before.before.before.before in
     let s = start f in
     let p = s.pre in
-    check-on s.args.text.now p.0 (read f).before.loop.invariant p.1.1.0 p.1.1.1.0 (read f).read-line.ensures
+    check_on s.args.text.now p.0 (read f).before.loop.invariant p.1.1.0 p.1.1.1.0 (read f).read-line.ensures
     f.before.before.read.given.1
-    s.args.flags p.1.0 (c.before.before.before.line-number.ensures ∙ ap (lineNumber _ _ _) f.is-fixed.ensures) c.before.before.if1.false
+    s.args.flags p.1.0 (c.before.before.before.line-number.ensures ∙ ap (line_number _ _ _) f.is-fixed.ensures) c.before.before.if1.false
     c.before.Room-after.ensures c.size-after.ensures
 
 enum-known-read-2 : tie.Need-enum-known-read-2 invariant-loop decreases-loop
@@ -92,7 +92,7 @@ returns-2 : tie.Need-returns-2 invariant-loop decreases-loop
 returns-2 c =
     let got = c.before.before.before in
     let s = got.before.before.before in
-    no-refusal s.args.text.now s.requires.0 (lines-refused got.before.loop.invariant.walked got.read-line.ensures c.before.read2.given.1)
+    no_refusal s.args.text.now s.requires.0 (lines_refused got.before.loop.invariant.walked got.read-line.ensures c.before.read2.given.1)
 
 enum_told : tie.Need-enum-told invariant-loop decreases-loop
 enum_told c = search rules
@@ -102,10 +102,10 @@ returns-3 c =
     let got = c.before.before in
     let s = got.before.before.before in
     let g = got.before.loop.invariant in
-    check-over s.args.text.now s.requires.0 g (lines-over g.walked got.read-line.ensures c.enum_told.given.1)
+    check_over s.args.text.now s.requires.0 g (lines_over g.walked got.read-line.ensures c.enum_told.given.1)
 
-pub check-run-spec : {M : Type 1} → statement M
-check-run-spec =
+pub check_run_spec : {M : Type 1} → statement M
+check_run_spec =
     tie.close
     (tie.spec
     invariant-loop

@@ -1,7 +1,7 @@
 -- `importing::checking::check_runs` meets its contract.
 -- Assumes nothing.
 use native.Mathlib.Omega.{arith}
-use Rattle.importing.proofs.RunLaws.{rules-refuse, then-refuse, then-pass}
+use Rattle.importing.proofs.RunLaws.{rules_refuse, then_refuse, then_pass}
 use borrow.Author.Rules.{rules}
 use Rattle.importing.proofs.checking.check_runs.Statement.{statement}
 use Rattle.importing.proofs.checking.check_runs.Tie as tie
@@ -13,7 +13,7 @@ enum-known-rules : tie.Need-enum-known-rules
 enum-known-rules c = search rules
 
 returns : tie.Need-returns
-returns c = rules-refuse c.before.before.before.before.before.args.text.now c.before.before.before.check-run.ensures
+returns c = rules_refuse c.before.before.before.before.before.args.text.now c.before.before.before.check-run.ensures
     c.before.rules.given.1
 
 enum-known-rules-2 : tie.Need-enum-known-rules-2
@@ -29,7 +29,7 @@ returns-2 : tie.Need-returns-2
 returns-2 c =
     let second = c.before.before.before in
     let first = second.before.before.before.before in
-    then-refuse first.before.before.args.text.now first.check-run.ensures second.before.before.rules2.given.1
+    then_refuse first.before.before.args.text.now first.check-run.ensures second.before.before.rules2.given.1
     second.check-run2.ensures c.before.integrity.given.1
 
 enum-known-integrity-2 : tie.Need-enum-known-integrity-2
@@ -39,11 +39,11 @@ returns-3 : tie.Need-returns-3
 returns-3 c =
     let second = c.before.before.before in
     let first = second.before.before.before.before in
-    then-pass first.before.before.args.text.now first.check-run.ensures second.before.before.rules2.given.1 second.check-run2.ensures
+    then_pass first.before.before.args.text.now first.check-run.ensures second.before.before.rules2.given.1 second.check-run2.ensures
     c.before.integrity2.given.1
 
-pub check-runs-spec : {M : Type 1} → statement M
-check-runs-spec =
+pub check_runs_spec : {M : Type 1} → statement M
+check_runs_spec =
     tie.close
     (tie.spec
     check-run-requires

@@ -1,17 +1,17 @@
 -- `importing::checking::line_number` meets its contract.
 -- Assumes nothing.
 use borrow.Author.Tests.{eq-eqb, ne_eqb, not-true, not-false}
-use Rattle.importing.specs.Passes.{lineNumber}
+use Rattle.importing.specs.Passes.{line_number}
 use borrow.Author.Rules.{rules}
 use Rattle.importing.proofs.checking.line_number.Statement.{statement}
 use Rattle.importing.proofs.checking.line_number.Tie as tie
 
 returns : tie.Need-returns
-unfolding lineNumber
+unfolding line_number
 returns c = rw (ne_eqb _ _ c.if1.true)
 
 returns-2 : tie.Need-returns-2
-unfolding lineNumber
+unfolding line_number
 returns-2 c = rw (eq-eqb _ _ c.before.if1.false, c.if2.true)
 
 mul-length-allowed : tie.Need-overflow-mul-length-allowed
@@ -21,7 +21,7 @@ length-allowed-requires : tie.Need-length-allowed-requires
 length-allowed-requires c κs = search rules
 
 returns-3 : tie.Need-returns-3
-unfolding lineNumber
+unfolding line_number
 returns-3 c = rw (
   eq-eqb _ _ c.before.before.before.before.if1.false,
   ne_eqb _ 0 c.before.before.before.if2.false,
@@ -30,7 +30,7 @@ returns-3 c = rw (
 )
 
 returns-4 : tie.Need-returns-4
-unfolding lineNumber
+unfolding line_number
 returns-4 c = rw (
   eq-eqb _ _ c.before.before.before.before.before.if1.false,
   ne_eqb _ 0 c.before.before.before.before.if2.false,
@@ -40,7 +40,7 @@ returns-4 c = rw (
 )
 
 returns-5 : tie.Need-returns-5
-unfolding lineNumber
+unfolding line_number
 returns-5 c = rw (
   eq-eqb _ _ c.before.before.before.before.before.if1.false,
   ne_eqb _ 0 c.before.before.before.before.if2.false,
@@ -49,8 +49,8 @@ returns-5 c = rw (
   c.if4.false,
 )
 
-pub line-number-spec : {M : Type 1} → statement M
-line-number-spec =
+pub line_number_spec : {M : Type 1} → statement M
+line_number_spec =
     tie.close
     (tie.spec
     returns

@@ -4,8 +4,8 @@ use mathlib.Core.Path.{◌≡◌, refl}
 use Prim.Native.Nat.{ℕ, ◌-◌}
 use native.Mathlib.Omega.{arith}
 use lib.ListN.{length}
-use Rattle.importing.proofs.LinesWalked.{lines_end, lines-less, lines-on}
-use Rattle.importing.proofs.DeclareLaws.{Declaring, declare-start, no-flags, declare-over, declare-on, declare-full}
+use Rattle.importing.proofs.LinesWalked.{lines_end, lines_less, lines_on}
+use Rattle.importing.proofs.DeclareLaws.{Declaring, declare_start, no_flags, declare_over, declare_on, declare_full}
 use borrow.Author.Rules.{rules}
 use Rattle.importing.proofs.declaring.declare.Statement.{statement}
 use Rattle.importing.proofs.declaring.declare.Tie as tie
@@ -26,7 +26,7 @@ module _ (c : tie.After-is-new invariant-loop decreases-loop) where
   start = read.before.before.before
 
 loop-holds : tie.Need-loop-init invariant-loop decreases-loop
-loop-holds c = declare-start _ _ refl no-flags
+loop-holds c = declare_start _ _ refl no_flags
 
 read-line-requires : tie.Need-read-line-requires invariant-loop decreases-loop
 read-line-requires c κs = c.loop.invariant.walked.within
@@ -40,7 +40,7 @@ returns c =
     let text = c.before.before.before.before.args.text.now in
     let was = c.before.before.before.before.requires in
     let end = lines_end text was at.invariant.walked c.before.read-line.result c.before.read-line.ensures c.match.keys2 in
-    record { flags = λ z. declare-over text was at.invariant end; refuses = λ bad. absurd (bad refl) }
+    record { flags = λ z. declare_over text was at.invariant end; refuses = λ bad. absurd (bad refl) }
 
 is-new-requires : tie.Need-is-new-requires invariant-loop decreases-loop
 is-new-requires c κs = search rules
@@ -48,7 +48,7 @@ is-new-requires c κs = search rules
 returns-2 : tie.Need-returns-2 invariant-loop decreases-loop
 returns-2 c =
     let s = start c.before in
-    let full = declare-full s.args.text.now s.pre (read c.before).before.loop.inv (read c.before).read-line.ensures
+    let full = declare_full s.args.text.now s.pre (read c.before).before.loop.inv (read c.before).read-line.ensures
     c.before.before.before.read.given.1 c.before.is-new.ensures c.if1.true in
     record { flags = λ z. absurd (let q : ◌≡◌ {A = ℕ} 3 0 = z in omega arith); refuses = λ bad. full }
 
@@ -62,19 +62,19 @@ loop-less : tie.Need-loop-smaller invariant-loop decreases-loop
 loop-less c =
     let new = c.before.before.before in
     let walked = (read new).before.loop.invariant.walked in
-    let less = lines-less walked (read new).read-line.ensures new.before.before.read.given.1 in
-    let on = lines-on walked (read new).read-line.ensures new.before.before.read.given.1 in
+    let less = lines_less walked (read new).read-line.ensures new.before.before.read.given.1 in
+    let on = lines_on walked (read new).read-line.ensures new.before.before.read.given.1 in
     omega (arith, less, on.within)
 
 loop-again : tie.Need-loop-preserved invariant-loop decreases-loop
 loop-again c =
     let new = c.before.before.before in
     let s = start new in
-    declare-on s.args.text.now s.pre (read new).before.loop.invariant (read new).read-line.ensures new.before.before.read.given.1
+    declare_on s.args.text.now s.pre (read new).before.loop.invariant (read new).read-line.ensures new.before.before.read.given.1
     new.is-new.ensures c.before.before.if1.false c.before.room-left.ensures c.flag.ensures
 
-pub declare-spec : {M : Type 1} → statement M
-declare-spec =
+pub declare_spec : {M : Type 1} → statement M
+declare_spec =
     tie.close
     (tie.spec
     invariant-loop

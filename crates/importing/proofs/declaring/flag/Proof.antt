@@ -22,5 +22,5 @@ array-write-more c = search rules
 returns-3 : tie.Need-returns-3
 returns-3 c = rw (not-false c.before.before.args.new c.before.if1.false)
 
-pub flag-spec : {M : Type 1} → statement M
-flag-spec = tie.close (tie.spec returns returns-2 array-write-more returns-3)
+pub flag_spec : {M : Type 1} → statement M
+flag_spec = tie.close (tie.spec returns returns-2 array-write-more returns-3)

@@ -17,5 +17,5 @@ array-read-result c = search rules
 returns-2 : tie.Need-returns-2
 returns-2 c = search rules
 
-pub flag-at-spec : {M : Type 1} → statement M
-flag-at-spec = tie.close (tie.spec returns array-read-result returns-2)
+pub flag_at_spec : {M : Type 1} → statement M
+flag_at_spec = tie.close (tie.spec returns array-read-result returns-2)

@@ -1,6 +1,6 @@
 -- `importing::declaring::is_new` meets its contract.
 -- Assumes nothing.
-use Rattle.importing.specs.Passes.{newIn}
+use Rattle.importing.specs.Passes.{new_in}
 use borrow.Author.Rules.{rules}
 use Rattle.importing.proofs.declaring.is_new.Statement.{statement}
 use Rattle.importing.proofs.declaring.is_new.Tie as tie
@@ -9,8 +9,8 @@ flag-at-requires : tie.Need-flag-at-requires
 flag-at-requires c κs = search rules
 
 returns : tie.Need-returns
-unfolding newIn
+unfolding new_in
 returns c = rw c.flag_at.ensures
 
-pub is-new-spec : {M : Type 1} → statement M
-is-new-spec = tie.close (tie.spec flag-at-requires returns)
+pub is_new_spec : {M : Type 1} → statement M
+is_new_spec = tie.close (tie.spec flag-at-requires returns)

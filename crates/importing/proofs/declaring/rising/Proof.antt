@@ -5,16 +5,16 @@ use Prim.Native.Nat.{ℕ, ◌-◌, ◌≤◌}
 use native.Mathlib.Omega.{arith}
 use lib.ListN.{length}
 use Rattle.text.specs.LineNumbers.{padded}
-use Rattle.text.proofs.Gathering.{padded-length}
+use Rattle.text.proofs.Gathering.{padded_length}
 use Rattle.importing.specs.declared.declaring.Abducibles.{Abducibles}
-use Rattle.importing.specs.Passes.{flaggedFrom, list_of}
-use Rattle.importing.proofs.RisingLaws.{listed_start, listed_more, flagged-few}
+use Rattle.importing.specs.Passes.{flagged_from, list_of}
+use Rattle.importing.proofs.RisingLaws.{listed_start, listed_more, flagged_few}
 use borrow.Author.Rules.{rules}
 use Rattle.importing.proofs.declaring.rising.Statement.{statement}
 use Rattle.importing.proofs.declaring.rising.Tie as tie
 
 abbrev invariant-loop : tie.invariant-loop
-invariant-loop flags atoms list₀ atom₀ list atom = (atom ≤ atoms) × (list ≡ list_of (flaggedFrom flags 0 atom))
+invariant-loop flags atoms list₀ atom₀ list atom = (atom ≤ atoms) × (list ≡ list_of (flagged_from flags 0 atom))
 
 abbrev decreases-loop : tie.decreases-loop
 decreases-loop flags atoms list₀ atom₀ list atom = atoms - atom
@@ -31,8 +31,8 @@ listed-requires c κs =
     let at = c.before.before.loop in
     let s = c.before.before.before in
     let count = ap (λ (l : Abducibles). l.count) at.invariant.1 in
-    let few = flagged-few s.args.flags 0 at.atom in
-    let all = ap (λ (l : Abducibles). length l.numbers) at.invariant.1 ∙ padded-length 17 (flaggedFrom s.args.flags 0 at.atom) in
+    let few = flagged_few s.args.flags 0 at.atom in
+    let all = ap (λ (l : Abducibles). length l.numbers) at.invariant.1 ∙ padded_length 17 (flagged_from s.args.flags 0 at.atom) in
     (omega arith, (omega arith, all))
 
 add-atom : tie.Need-overflow-add-atom invariant-loop decreases-loop
@@ -51,10 +51,10 @@ returns c =
     let at = c.before.loop in
     let s = c.before.before in
     let all : at.atom ≡ s.args.atoms = omega (arith, c.loop-test.false, at.invariant.0) in
-    at.invariant.1 ∙ ap (λ (n : ℕ). list_of (flaggedFrom s.args.flags 0 n)) all
+    at.invariant.1 ∙ ap (λ (n : ℕ). list_of (flagged_from s.args.flags 0 n)) all
 
-pub rising-spec : {M : Type 1} → statement M
-rising-spec =
+pub rising_spec : {M : Type 1} → statement M
+rising_spec =
     tie.close
     (tie.spec
     invariant-loop

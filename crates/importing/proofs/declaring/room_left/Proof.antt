@@ -17,5 +17,5 @@ sub-result c = search rules
 returns-3 : tie.Need-returns-3
 returns-3 c = rw (not-false c.before.before.args.new c.before.if1.false)
 
-pub room-left-spec : {M : Type 1} → statement M
-room-left-spec = tie.close (tie.spec returns returns-2 sub-result returns-3)
+pub room_left_spec : {M : Type 1} → statement M
+room_left_spec = tie.close (tie.spec returns returns-2 sub-result returns-3)

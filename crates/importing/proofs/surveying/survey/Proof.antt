@@ -4,9 +4,9 @@ use mathlib.Core.Path.{sym, ap}
 use Prim.Native.Nat.{◌-◌}
 use native.Mathlib.Omega.{arith}
 use lib.ListN.{length}
-use Rattle.importing.specs.Passes.{surveyAnswer}
-use Rattle.importing.proofs.LinesWalked.{lines-refused, lines-less, lines-on}
-use Rattle.importing.proofs.SurveyLaws.{Surveying, survey-start, survey-over, survey-on}
+use Rattle.importing.specs.Passes.{survey_answer}
+use Rattle.importing.proofs.LinesWalked.{lines_refused, lines_less, lines_on}
+use Rattle.importing.proofs.SurveyLaws.{Surveying, survey_start, survey_over, survey_on}
 use borrow.Author.Rules.{rules}
 use Rattle.importing.proofs.surveying.survey.Statement.{statement}
 use Rattle.importing.proofs.surveying.survey.Tie as tie
@@ -18,7 +18,7 @@ abbrev decreases-loop : tie.decreases-loop
 decreases-loop text at₀ atoms₀ at atoms = length text - at
 
 loop-holds : tie.Need-loop-init invariant-loop decreases-loop
-loop-holds c = survey-start _
+loop-holds c = survey_start _
 
 read-line-requires : tie.Need-read-line-requires invariant-loop decreases-loop
 read-line-requires c κs = c.loop.invariant.walked.within
@@ -33,14 +33,14 @@ loop-less : tie.Need-loop-smaller invariant-loop decreases-loop
 loop-less c =
     let read = c.before.before.before.before in
     let walked = read.before.loop.invariant.walked in
-    let less = lines-less walked read.read-line.ensures c.before.before.read.given.1 in
-    let on = lines-on walked read.read-line.ensures c.before.before.read.given.1 in
+    let less = lines_less walked read.read-line.ensures c.before.before.read.given.1 in
+    let on = lines_on walked read.read-line.ensures c.before.before.read.given.1 in
     omega (arith, less, on.within)
 
 loop-again : tie.Need-loop-preserved invariant-loop decreases-loop
 loop-again c =
     let read = c.before.before.before.before in
-    survey-on read.before.loop.invariant read.read-line.ensures c.before.before.read.given.1 c.greater.ensures
+    survey_on read.before.loop.invariant read.read-line.ensures c.before.before.read.given.1 c.greater.ensures
 
 enum-known-read-2 : tie.Need-enum-known-read-2 invariant-loop decreases-loop
 enum-known-read-2 c = search rules
@@ -48,7 +48,7 @@ enum-known-read-2 c = search rules
 returns : tie.Need-returns invariant-loop decreases-loop
 returns c =
     let read = c.before.before.before in
-    ap surveyAnswer (sym (lines-refused read.before.loop.invariant.walked read.read-line.ensures c.before.read2.given.1))
+    ap survey_answer (sym (lines_refused read.before.loop.invariant.walked read.read-line.ensures c.before.read2.given.1))
 
 enum_told : tie.Need-enum-told invariant-loop decreases-loop
 enum_told c = search rules
@@ -56,10 +56,10 @@ enum_told c = search rules
 returns-2 : tie.Need-returns-2 invariant-loop decreases-loop
 returns-2 c =
     let read = c.before.before in
-    survey-over read.before.loop.invariant read.read-line.ensures c.enum_told.given.1
+    survey_over read.before.loop.invariant read.read-line.ensures c.enum_told.given.1
 
-pub survey-spec : {M : Type 1} → statement M
-survey-spec =
+pub survey_spec : {M : Type 1} → statement M
+survey_spec =
     tie.close
     (tie.spec
     invariant-loop

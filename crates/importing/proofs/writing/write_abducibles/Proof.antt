@@ -6,16 +6,16 @@ use Prim.Native.Nat.{ℕ, ◌+◌, ◌*◌, ◌-◌, ◌≤◌}
 use native.Mathlib.Omega.{arith}
 use lib.ListN.{length, take, drop, length-append, length-drop}
 use borrow.Rule.Slice.PartMut.{same_len_mid}
-use Rattle.papers.specs.Encoding.{encodeNumbers, encodeField}
+use Rattle.papers.specs.Encoding.{encode_numbers, encode_field}
 use Rattle.papers.proofs.NumbersWalked.{to_end}
 use Rattle.dual.specs.Bytes.{filled}
-use Rattle.dual.proofs.FilledLaws.{put-end}
+use Rattle.dual.proofs.FilledLaws.{put_end}
 use native.Mathlib.Nat.{sub-zero}
-use Rattle.papers.proofs.Sizes.{length-field}
-use Rattle.papers.proofs.NumberLaws.{length-encoded}
+use Rattle.papers.proofs.Sizes.{length_field}
+use Rattle.papers.proofs.NumberLaws.{length_encoded}
 use lib.Seq.{length-take-le}
-use Rattle.importing.specs.Passes.{fromRules, fromAbducibles}
-use Rattle.importing.proofs.RunWriting.{filled-then}
+use Rattle.importing.specs.Passes.{from_rules, from_abducibles}
+use Rattle.importing.proofs.RunWriting.{filled_then}
 use borrow.Author.Rules.{rules}
 use Rattle.importing.proofs.writing.write_abducibles.Statement.{statement}
 use Rattle.importing.proofs.writing.write_abducibles.Tie as tie
@@ -30,18 +30,18 @@ module _ (c : tie.Start) where
   numbers = take c.args.abducibles.count c.args.abducibles.numbers
 
   abbrev field : List ℕ
-  field = encodeField 0x03 (encodeNumbers numbers)
+  field = encode_field 0x03 (encode_numbers numbers)
 
   -- The part that is lent.
   taken : take (c.args.abducibles.count - 0) c.args.abducibles.numbers ≡ numbers
   taken = ap (λ (k : ℕ). take k c.args.abducibles.numbers) (sub-zero c.args.abducibles.count)
 
   size : length field ≡ 3 + 2 * length numbers
-  size = length-field 0x03 (encodeNumbers numbers) ∙ ap (λ (k : ℕ). 3 + k) (length-encoded numbers)
+  size = length_field 0x03 (encode_numbers numbers) ∙ ap (λ (k : ℕ). 3 + k) (length_encoded numbers)
 
-  whole : length field + length (fromRules text) ≤ length c.args.buffer.now
-  unfolding fromAbducibles
-  whole = let all = length-append field (fromRules text) in omega (arith, c.requires.1.1.1)
+  whole : length field + length (from_rules text) ≤ length c.args.buffer.now
+  unfolding from_abducibles
+  whole = let all = length-append field (from_rules text) in omega (arith, c.requires.1.1.1)
 
 -- ---- once the abducibles are written
 
@@ -56,13 +56,13 @@ module _ (c : tie.After-write-field) where
   buffer = c.write-field.new.0
 
   ends : end ≡ length (field start)
-  ends = c.write-field.ensures.0 ∙ ap (λ (x : List ℕ). length (encodeField 0x03 (encodeNumbers x))) (taken start)
+  ends = c.write-field.ensures.0 ∙ ap (λ (x : List ℕ). length (encode_field 0x03 (encode_numbers x))) (taken start)
 
   written : buffer ≡ filled (field start) start.args.buffer.now
-  written = c.write-field.ensures.1 ∙ ap (λ (x : List ℕ). filled (encodeField 0x03 (encodeNumbers x)) start.args.buffer.now) (taken start)
+  written = c.write-field.ensures.1 ∙ ap (λ (x : List ℕ). filled (encode_field 0x03 (encode_numbers x)) start.args.buffer.now) (taken start)
 
   -- There is room for what follows.
-  room : end + length (fromRules (text start)) ≤ length buffer
+  room : end + length (from_rules (text start)) ≤ length buffer
   room = omega (arith, ends, c.write-field.auto.0, whole start)
 
 sub-write-field : tie.Need-overflow-sub-write-field
@@ -103,7 +103,7 @@ module _ (c : tie.After-write-rules) where
   abbrev before-it : tie.After-write-field
   before-it = c.before.before.before.before
 
-  followed : c.write-rules.new.0 ≡ filled (fromRules (text (start before-it))) (drop (end before-it) (buffer before-it))
+  followed : c.write-rules.new.0 ≡ filled (from_rules (text (start before-it))) (drop (end before-it) (buffer before-it))
   followed = rw (to_end (end before-it) (buffer before-it)) at c.write-rules.ensures
 
 same_length : tie.Need-same-length
@@ -113,16 +113,16 @@ same_length c =
     ∙ w.write-field.kept.0
 
 returns : tie.Need-returns
-unfolding fromAbducibles
+unfolding from_abducibles
 returns c =
     let e = c.before.before in
     let w = before-it e in
-    put-end (end w) (buffer w) e.write-rules.new.0
-    ∙ filled-then (field (start w)) (fromRules (text (start w))) (start w).args.buffer.now (buffer w) e.write-rules.new.0 (end w) (written w) (ends w)
+    put_end (end w) (buffer w) e.write-rules.new.0
+    ∙ filled_then (field (start w)) (from_rules (text (start w))) (start w).args.buffer.now (buffer w) e.write-rules.new.0 (end w) (written w) (ends w)
     (followed e)
 
-pub write-abducibles-spec : {M : Type 1} → statement M
-write-abducibles-spec =
+pub write_abducibles_spec : {M : Type 1} → statement M
+write_abducibles_spec =
     tie.close
     (tie.spec
     sub-write-field

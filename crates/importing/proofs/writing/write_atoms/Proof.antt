@@ -6,12 +6,12 @@ use Prim.Native.Nat.{ℕ, ◌+◌, ◌-◌, ◌≤◌}
 use native.Mathlib.Omega.{arith}
 use lib.ListN.{length, drop, length-append, length-drop}
 use borrow.Rule.Slice.PartMut.{same_len_mid}
-use Rattle.papers.specs.Encoding.{encodeNumbers, encodeField}
+use Rattle.papers.specs.Encoding.{encode_numbers, encode_field}
 use Rattle.papers.proofs.NumbersWalked.{to_end}
 use Rattle.dual.specs.Bytes.{filled}
-use Rattle.dual.proofs.FilledLaws.{put-end}
-use Rattle.importing.specs.Passes.{fromAbducibles, fromAtoms}
-use Rattle.importing.proofs.RunWriting.{filled-then}
+use Rattle.dual.proofs.FilledLaws.{put_end}
+use Rattle.importing.specs.Passes.{from_abducibles, from_atoms}
+use Rattle.importing.proofs.RunWriting.{filled_then}
 use borrow.Author.Rules.{rules}
 use Rattle.importing.proofs.writing.write_atoms.Statement.{statement}
 use Rattle.importing.proofs.writing.write_atoms.Tie as tie
@@ -20,17 +20,17 @@ use Rattle.importing.proofs.writing.write_atoms.Tie as tie
 
 module _ (c : tie.Start) where
   abbrev field : List ℕ
-  field = encodeField 0x02 (encodeNumbers (c.args.atoms ∷ []))
+  field = encode_field 0x02 (encode_numbers (c.args.atoms ∷ []))
 
   abbrev later : List ℕ
-  later = fromAbducibles c.args.abducibles c.args.text.now
+  later = from_abducibles c.args.abducibles c.args.text.now
 
   size : length field ≡ 5
-  unfolding encodeField encodeNumbers
+  unfolding encode_field encode_numbers
   size = omega arith
 
   whole : 5 + length later ≤ length c.args.buffer.now
-  unfolding fromAtoms
+  unfolding from_atoms
   whole = let all = length-append field later in omega (arith, c.requires.1.1.1.1, size)
 
 -- ---- once the atom count is written
@@ -43,7 +43,7 @@ module _ (c : tie.After-put-heading) where
   buffer = c.put-heading.new.0
 
   written : buffer ≡ filled (field start) start.args.buffer.now
-  unfolding encodeField encodeNumbers
+  unfolding encode_field encode_numbers
   written = c.put-heading.ensures
 
   -- There is room for what follows.
@@ -85,17 +85,17 @@ same_length c =
     ∙ w.put-heading.kept.0
 
 returns : tie.Need-returns
-unfolding fromAtoms
+unfolding from_atoms
 returns c =
     let e = c.before.before in
     let w = before-it e in
-    put-end 5 (buffer w) e.write-abducibles.new.0
-    ∙ filled-then (field (start w)) (later (start w)) (start w).args.buffer.now (buffer w) e.write-abducibles.new.0 5 (written w)
+    put_end 5 (buffer w) e.write-abducibles.new.0
+    ∙ filled_then (field (start w)) (later (start w)) (start w).args.buffer.now (buffer w) e.write-abducibles.new.0 5 (written w)
     (sym (size (start w)))
     (followed e)
 
-pub write-atoms-spec : {M : Type 1} → statement M
-write-atoms-spec =
+pub write_atoms_spec : {M : Type 1} → statement M
+write_atoms_spec =
     tie.close
     (tie.spec
     put-heading-requires

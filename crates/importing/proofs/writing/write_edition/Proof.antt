@@ -2,8 +2,8 @@
 -- Assumes nothing.
 use native.Mathlib.Omega.{arith}
 use lib.ListN.{length-set}
-use Rattle.papers.specs.Encoding.{encodeField}
-use Rattle.importing.proofs.RunWriting.{filled-four}
+use Rattle.papers.specs.Encoding.{encode_field}
+use Rattle.importing.proofs.RunWriting.{filled_four}
 use borrow.Author.Rules.{rules}
 use Rattle.importing.proofs.writing.write_edition.Statement.{statement}
 use Rattle.importing.proofs.writing.write_edition.Tie as tie
@@ -24,11 +24,11 @@ same_length : tie.Need-same-length
 same_length c = search rules
 
 returns : tie.Need-returns
-unfolding encodeField
-returns c = filled-four c.args.buffer.now 1 0 1 1 c.requires
+unfolding encode_field
+returns c = filled_four c.args.buffer.now 1 0 1 1 c.requires
 
-pub write-edition-spec : {M : Type 1} → statement M
-write-edition-spec =
+pub write_edition_spec : {M : Type 1} → statement M
+write_edition_spec =
     tie.close
     (tie.spec
     slice-write-buffer

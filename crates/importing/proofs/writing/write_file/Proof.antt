@@ -6,16 +6,16 @@ use Prim.Native.Nat.{ℕ, ◌+◌, ◌-◌, ◌≤◌}
 use native.Mathlib.Omega.{arith}
 use lib.ListN.{length, drop, length-append, length-drop}
 use borrow.Rule.Slice.PartMut.{same_len_mid}
-use Rattle.papers.specs.Encoding.{encodeField}
+use Rattle.papers.specs.Encoding.{encode_field}
 use Rattle.papers.proofs.NumbersWalked.{to_end}
 use Rattle.dual.specs.Bytes.{filled}
-use Rattle.dual.proofs.FilledLaws.{put-end}
-use Rattle.papers.specs.Encoding.{encodeFile}
-use Rattle.importing.specs.Passes.{typed, fromAtoms}
+use Rattle.dual.proofs.FilledLaws.{put_end}
+use Rattle.papers.specs.Encoding.{encode_file}
+use Rattle.importing.specs.Passes.{typed, from_atoms}
 use Rattle.importing.specs.declared.declaring.Abducibles.{Abducibles}
-use Rattle.importing.proofs.RunWriting.{filled-then}
-use Rattle.text.proofs.Gathering.{padded-length}
-use Rattle.importing.proofs.ImportLaws.{few-atoms, sized, few-abducibles, as_fields}
+use Rattle.importing.proofs.RunWriting.{filled_then}
+use Rattle.text.proofs.Gathering.{padded_length}
+use Rattle.importing.proofs.ImportLaws.{few_atoms_lem, sized, few_abducibles_lem, as_fields}
 use borrow.Author.Rules.{rules}
 use Rattle.importing.proofs.writing.write_file.Statement.{statement}
 use Rattle.importing.proofs.writing.write_file.Tie as tie
@@ -27,20 +27,20 @@ module _ (c : tie.Start) where
   text = c.args.text.now
 
   abbrev field : List ℕ
-  field = encodeField 0x01 (1 ∷ [])
+  field = encode_field 0x01 (1 ∷ [])
 
   abbrev later : List ℕ
-  later = fromAtoms c.args.atoms c.args.abducibles text
+  later = from_atoms c.args.atoms c.args.abducibles text
 
   -- It is the file.
-  file : field ++ later ≡ encodeFile (typed text)
+  file : field ++ later ≡ encode_file (typed text)
   file =
-      ap (λ (n : ℕ). field ++ fromAtoms n c.args.abducibles text) c.requires.count
-      ∙ ap (λ (l : Abducibles). field ++ fromAtoms (typed text).atoms l text) c.requires.abducibles
+      ap (λ (n : ℕ). field ++ from_atoms n c.args.abducibles text) c.requires.count
+      ∙ ap (λ (l : Abducibles). field ++ from_atoms (typed text).atoms l text) c.requires.abducibles
       ∙ as_fields text c.requires.imported
 
   size : length field ≡ 4
-  unfolding encodeField
+  unfolding encode_field
   size = omega arith
 
   whole : 4 + length later ≤ length c.args.buffer.now
@@ -79,11 +79,11 @@ write-atoms-requires c κs =
     let d = length-drop 4 (buffer w) in
     let whole-text = sized (text s) s.pre.imported in
     let count = ap (λ (l : Abducibles). l.count) s.pre.abducibles in
-    let all = ap (λ (l : Abducibles). length l.numbers) s.pre.abducibles ∙ padded-length 17 (typed (text s)).abducibles in (
+    let all = ap (λ (l : Abducibles). length l.numbers) s.pre.abducibles ∙ padded_length 17 (typed (text s)).abducibles in (
       whole-text,
       (
-        omega (arith, few-abducibles (text s) s.pre.imported),
-        (all, (omega (arith, few-atoms (text s) whole-text.read, s.pre.count), omega (arith, room w))),
+        omega (arith, few_abducibles_lem (text s) s.pre.imported),
+        (all, (omega (arith, few_atoms_lem (text s) whole-text.read, s.pre.count), omega (arith, room w))),
       ),
     )
 
@@ -107,12 +107,12 @@ returns c =
     let e = c.before.before in
     let w = before-it e in
     let s = start w in
-    put-end 4 (buffer w) e.write-atoms.new.0
-    ∙ filled-then (field s) (later s) s.args.buffer.now (buffer w) e.write-atoms.new.0 4 w.write-edition.ensures (sym (size s)) (followed e)
+    put_end 4 (buffer w) e.write-atoms.new.0
+    ∙ filled_then (field s) (later s) s.args.buffer.now (buffer w) e.write-atoms.new.0 4 w.write-edition.ensures (sym (size s)) (followed e)
     ∙ ap (λ (x : List ℕ). filled x s.args.buffer.now) (file s)
 
-pub write-file-spec : {M : Type 1} → statement M
-write-file-spec =
+pub write_file_spec : {M : Type 1} → statement M
+write_file_spec =
     tie.close
     (tie.spec
     write-edition-requires

@@ -6,12 +6,12 @@ use Prim.Native.Nat.{ℕ, ◌+◌, ◌-◌, ◌≤◌}
 use native.Mathlib.Omega.{arith}
 use lib.ListN.{length, drop, length-append, length-drop}
 use borrow.Rule.Slice.PartMut.{same_len_mid}
-use Rattle.papers.specs.Encoding.{encodeField, encodeRun}
+use Rattle.papers.specs.Encoding.{encode_field, encode_run}
 use Rattle.papers.proofs.NumbersWalked.{to_end}
 use Rattle.dual.specs.Bytes.{filled}
-use Rattle.dual.proofs.FilledLaws.{put-end}
-use Rattle.importing.specs.Passes.{contentsIn, fromIntegrity}
-use Rattle.importing.proofs.RunWriting.{filled-then}
+use Rattle.dual.proofs.FilledLaws.{put_end}
+use Rattle.importing.specs.Passes.{contents_in, from_integrity}
+use Rattle.importing.proofs.RunWriting.{filled_then}
 use borrow.Author.Rules.{rules}
 use Rattle.importing.proofs.writing.write_integrity.Statement.{statement}
 use Rattle.importing.proofs.writing.write_integrity.Tie as tie
@@ -23,7 +23,7 @@ module _ (c : tie.After-write-run) where
   start = c.before.before.before.before
 
   abbrev run : List ℕ
-  run = encodeRun 0x05 (contentsIn 0x05 start.args.text.now)
+  run = encode_run 0x05 (contents_in 0x05 start.args.text.now)
 
   abbrev end : ℕ
   end = c.write-run.result
@@ -33,16 +33,16 @@ module _ (c : tie.After-write-run) where
 
   -- There is room for the end.
   room : end + 3 ≤ length buffer
-  unfolding fromIntegrity encodeField
+  unfolding from_integrity encode_field
   room =
       let all = length-append run (0x7F ∷ 0 ∷ 0 ∷ []) in
       omega (arith, c.write-run.ensures.0, c.write-run.auto.0, start.pre.1)
 
 write-run-requires : tie.Need-write-run-requires
-unfolding fromIntegrity
+unfolding from_integrity
 write-run-requires c κs =
     let s = c.before.before.before in
-    let all = length-append (encodeRun 0x05 (contentsIn 0x05 s.args.text.now)) (encodeField 0x7F []) in
+    let all = length-append (encode_run 0x05 (contents_in 0x05 s.args.text.now)) (encode_field 0x7F []) in
     record { read = s.requires.0.read; small = s.requires.0.integrity; fits = omega (arith, s.requires.1) }
 
 sub-write-end : tie.Need-overflow-sub-write-end
@@ -67,7 +67,7 @@ module _ (c : tie.After-write-end) where
   abbrev before-it : tie.After-write-run
   before-it = c.before.before.before.before
 
-  ended : c.write-end.new.0 ≡ filled (encodeField 0x7F []) (drop (end before-it) (buffer before-it))
+  ended : c.write-end.new.0 ≡ filled (encode_field 0x7F []) (drop (end before-it) (buffer before-it))
   ended = rw (to_end (end before-it) (buffer before-it)) at c.write-end.ensures
 
 same_length : tie.Need-same-length
@@ -77,16 +77,16 @@ same_length c =
     ∙ w.write-run.kept.0
 
 returns : tie.Need-returns
-unfolding fromIntegrity
+unfolding from_integrity
 returns c =
     let e = c.before.before in
     let w = before-it e in
-    put-end (end w) (buffer w) e.write-end.new.0
-    ∙ filled-then (run w) (encodeField 0x7F []) (start w).args.buffer.now (buffer w) e.write-end.new.0 (end w) w.write-run.ensures.1
+    put_end (end w) (buffer w) e.write-end.new.0
+    ∙ filled_then (run w) (encode_field 0x7F []) (start w).args.buffer.now (buffer w) e.write-end.new.0 (end w) w.write-run.ensures.1
     w.write-run.ensures.0 (ended e)
 
-pub write-integrity-spec : {M : Type 1} → statement M
-write-integrity-spec =
+pub write_integrity_spec : {M : Type 1} → statement M
+write_integrity_spec =
     tie.close
     (tie.spec
     write-run-requires

@@ -5,11 +5,11 @@ use Prim.Native.Nat.{ℕ, ◌+◌, ◌*◌, ◌-◌}
 use native.Mathlib.Omega.{arith}
 use native.Mathlib.Nat.{sub-zero}
 use lib.ListN.{length, take}
-use Rattle.papers.specs.Encoding.{encodeNumbers, encodeField}
-use Rattle.papers.proofs.Sizes.{length-field}
-use Rattle.papers.proofs.NumberLaws.{length-encoded}
-use Rattle.text.specs.Briefly.{numbersOf}
-use Rattle.importing.proofs.RunWriting.{skips, count_fits, said, bytes-own, fills}
+use Rattle.papers.specs.Encoding.{encode_numbers, encode_field}
+use Rattle.papers.proofs.Sizes.{length_field}
+use Rattle.papers.proofs.NumberLaws.{length_encoded}
+use Rattle.text.specs.Briefly.{numbers_of}
+use Rattle.importing.proofs.RunWriting.{skips, count_fits, said, bytes_own, fills}
 use borrow.Author.Rules.{rules}
 use Rattle.importing.proofs.writing.write_line.Statement.{statement}
 use Rattle.importing.proofs.writing.write_line.Tie as tie
@@ -24,7 +24,7 @@ module _ (c : tie.After-numbers-in) where
   own = c.before.if1.false
 
   -- The part that is lent is its numbers.
-  taken : take (start.args.line.count - 0) c.numbers-in.result ≡ numbersOf start.pre.line
+  taken : take (start.args.line.count - 0) c.numbers-in.result ≡ numbers_of start.pre.line
   taken = ap (λ (k : ℕ). take k c.numbers-in.result) (sub-zero start.args.line.count) ∙ said start.pre own c.numbers-in.ensures
 
 returns : tie.Need-returns
@@ -48,10 +48,10 @@ write-field-requires c κs =
     let s = start n in
     let f = count_fits s.pre (own n) in
     let l = ap length (taken n) in
-    let ns = numbersOf s.pre.line in
-    let size : length (encodeField s.args.tag (encodeNumbers ns)) ≡ 3 + 2 * length ns =
-    length-field s.args.tag (encodeNumbers ns) ∙ ap (λ (k : ℕ). 3 + k) (length-encoded ns) in
-    let fits = ap length (bytes-own s.pre (own n)) in
+    let ns = numbers_of s.pre.line in
+    let size : length (encode_field s.args.tag (encode_numbers ns)) ≡ 3 + 2 * length ns =
+    length_field s.args.tag (encode_numbers ns) ∙ ap (λ (k : ℕ). 3 + k) (length_encoded ns) in
+    let fits = ap length (bytes_own s.pre (own n)) in
     (omega (arith, s.pre.fits), omega arith)
 
 same_length : tie.Need-same-length
@@ -64,8 +64,8 @@ returns-2 c =
     let s = start n in
     fills s.pre (own n) (take (s.args.line.count - 0) n.numbers-in.result) s.args.buffer.now (taken n) w.write-field.ensures
 
-pub write-line-spec : {M : Type 1} → statement M
-write-line-spec =
+pub write_line_spec : {M : Type 1} → statement M
+write_line_spec =
     tie.close
     (tie.spec
     returns

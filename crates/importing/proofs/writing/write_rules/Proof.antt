@@ -6,12 +6,12 @@ use Prim.Native.Nat.{ℕ, ◌+◌, ◌-◌, ◌≤◌}
 use native.Mathlib.Omega.{arith}
 use lib.ListN.{length, drop, length-append, length-drop}
 use borrow.Rule.Slice.PartMut.{same_len_mid}
-use Rattle.papers.specs.Encoding.{encodeRun}
+use Rattle.papers.specs.Encoding.{encode_run}
 use Rattle.papers.proofs.NumbersWalked.{to_end}
 use Rattle.dual.specs.Bytes.{filled}
-use Rattle.dual.proofs.FilledLaws.{put-end}
-use Rattle.importing.specs.Passes.{contentsIn, fromIntegrity, fromRules}
-use Rattle.importing.proofs.RunWriting.{filled-then}
+use Rattle.dual.proofs.FilledLaws.{put_end}
+use Rattle.importing.specs.Passes.{contents_in, from_integrity, from_rules}
+use Rattle.importing.proofs.RunWriting.{filled_then}
 use borrow.Author.Rules.{rules}
 use Rattle.importing.proofs.writing.write_rules.Statement.{statement}
 use Rattle.importing.proofs.writing.write_rules.Tie as tie
@@ -26,7 +26,7 @@ module _ (c : tie.After-write-run) where
   text = start.args.text.now
 
   abbrev run : List ℕ
-  run = encodeRun 0x04 (contentsIn 0x04 text)
+  run = encode_run 0x04 (contents_in 0x04 text)
 
   abbrev end : ℕ
   end = c.write-run.result
@@ -35,17 +35,17 @@ module _ (c : tie.After-write-run) where
   buffer = c.write-run.new.0
 
   -- There is room for what follows.
-  room : end + length (fromIntegrity text) ≤ length buffer
-  unfolding fromRules
+  room : end + length (from_integrity text) ≤ length buffer
+  unfolding from_rules
   room =
-      let all = length-append run (fromIntegrity text) in
+      let all = length-append run (from_integrity text) in
       omega (arith, c.write-run.ensures.0, c.write-run.auto.0, start.pre.1)
 
 write-run-requires : tie.Need-write-run-requires
-unfolding fromRules
+unfolding from_rules
 write-run-requires c κs =
     let s = c.before.before.before in
-    let all = length-append (encodeRun 0x04 (contentsIn 0x04 s.args.text.now)) (fromIntegrity s.args.text.now) in
+    let all = length-append (encode_run 0x04 (contents_in 0x04 s.args.text.now)) (from_integrity s.args.text.now) in
     record { read = s.requires.0.read; small = s.requires.0.rules; fits = omega (arith, s.requires.1) }
 
 sub-write-integrity : tie.Need-overflow-sub-write-integrity
@@ -70,7 +70,7 @@ module _ (c : tie.After-write-integrity) where
   abbrev before-it : tie.After-write-run
   before-it = c.before.before.before.before
 
-  followed : c.write-integrity.new.0 ≡ filled (fromIntegrity (text before-it)) (drop (end before-it) (buffer before-it))
+  followed : c.write-integrity.new.0 ≡ filled (from_integrity (text before-it)) (drop (end before-it) (buffer before-it))
   followed = rw (to_end (end before-it) (buffer before-it)) at c.write-integrity.ensures
 
 same_length : tie.Need-same-length
@@ -80,16 +80,16 @@ same_length c =
     ∙ w.write-run.kept.0
 
 returns : tie.Need-returns
-unfolding fromRules
+unfolding from_rules
 returns c =
     let e = c.before.before in
     let w = before-it e in
-    put-end (end w) (buffer w) e.write-integrity.new.0
-    ∙ filled-then (run w) (fromIntegrity (text w)) (start w).args.buffer.now (buffer w) e.write-integrity.new.0 (end w) w.write-run.ensures.1
+    put_end (end w) (buffer w) e.write-integrity.new.0
+    ∙ filled_then (run w) (from_integrity (text w)) (start w).args.buffer.now (buffer w) e.write-integrity.new.0 (end w) w.write-run.ensures.1
     w.write-run.ensures.0 (followed e)
 
-pub write-rules-spec : {M : Type 1} → statement M
-write-rules-spec =
+pub write_rules_spec : {M : Type 1} → statement M
+write_rules_spec =
     tie.close
     (tie.spec
     write-run-requires

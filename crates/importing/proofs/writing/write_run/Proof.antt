@@ -7,11 +7,11 @@ use native.Mathlib.Omega.{arith}
 use lib.ListN.{length, drop, length-drop}
 use borrow.Rule.Slice.PartMut.{same_len_mid}
 use Rattle.papers.proofs.NumbersWalked.{to_end}
-use Rattle.dual.proofs.FilledLaws.{put-end}
+use Rattle.dual.proofs.FilledLaws.{put_end}
 use Rattle.text.specs.Lines.{Line}
-use Rattle.importing.specs.Passes.{LineFills, lineBytes}
-use Rattle.importing.proofs.LinesWalked.{lines_end, met, lines-less, lines-on}
-use Rattle.importing.proofs.RunWriting.{Writing, writing-none, writing-done, line-room, line-fits, writing_more, size-here}
+use Rattle.importing.specs.Passes.{LineFills, line_bytes}
+use Rattle.importing.proofs.LinesWalked.{lines_end, met, lines_less, lines_on}
+use Rattle.importing.proofs.RunWriting.{Writing, writing_none, writing_done, line_room, line_fits, writing_more, size_here}
 use borrow.Author.Rules.{rules}
 use Rattle.importing.proofs.writing.write_run.Statement.{statement}
 use Rattle.importing.proofs.writing.write_run.Tie as tie
@@ -41,14 +41,14 @@ module _ (c : tie.After-known-told invariant-loop decreases-loop) where
   line = (met head.loop.inv.0.walked read.read-line.ensures c.before.read.given.1).line
 
   -- There is room for it.
-  room : head.loop.end + length (lineBytes start.args.tag line) ≤ length start.args.buffer.now
-  room = line-room text start.pre head.loop.inv.0 read.read-line.ensures c.before.read.given.1
+  room : head.loop.end + length (line_bytes start.args.tag line) ≤ length start.args.buffer.now
+  room = line_room text start.pre head.loop.inv.0 read.read-line.ensures c.before.read.given.1
 
   inside : head.loop.end ≤ length head.loop.buffer
   inside = omega (arith, room, head.loop.inv.1)
 
 loop-holds : tie.Need-loop-init invariant-loop decreases-loop
-loop-holds c = (writing-none _ _ _, refl)
+loop-holds c = (writing_none _ _ _, refl)
 
 read-line-requires : tie.Need-read-line-requires invariant-loop decreases-loop
 read-line-requires c κs = c.loop.invariant.0.walked.within
@@ -64,7 +64,7 @@ returns c =
     let g = c.before.before.loop.invariant.0 in
     let s = c.before.before.before.before.before in
     let t = s.requires.read in
-    writing-done s.args.text.now s.args.tag t g
+    writing_done s.args.text.now s.args.tag t g
     (lines_end s.args.text.now t g.walked c.before.read-line.result c.before.read-line.ensures c.match.keys2)
 
 sub-write-line : tie.Need-overflow-sub-write-line invariant-loop decreases-loop
@@ -81,7 +81,7 @@ write-line-requires c κs =
     let k = c.before in
     let at = (head k).loop in
     let d = length-drop at.end at.buffer in
-    line-fits (text k) (start k).requires at.inv.0 (read k).read-line.ensures k.before.read.given.1 (ap length (to_end at.end at.buffer))
+    line_fits (text k) (start k).requires at.inv.0 (read k).read-line.ensures k.before.read.given.1 (ap length (to_end at.end at.buffer))
     (omega (arith, inside k, at.inv.1))
 
 -- ---- once it is written
@@ -101,7 +101,7 @@ add-end : tie.Need-overflow-add-end invariant-loop decreases-loop
 add-end c =
     let w = c.before.before in
     let k = known w in
-    let size = size-here (text k) (start k).pre (at w).loop.invariant.0 (read k).read-line.ensures k.before.read.given.1 (filled w) in
+    let size = size_here (text k) (start k).pre (at w).loop.invariant.0 (read k).read-line.ensures k.before.read.given.1 (filled w) in
     let good = (start k).good.0.0 in
     omega (arith, room k, size)
 
@@ -109,8 +109,8 @@ loop-less : tie.Need-loop-smaller invariant-loop decreases-loop
 loop-less c =
     let k = known c.before.before in
     let walked = (head k).loop.inv.0.walked in
-    let less = lines-less walked (read k).read-line.ensures k.before.read.given.1 in
-    let on = lines-on walked (read k).read-line.ensures k.before.read.given.1 in
+    let less = lines_less walked (read k).read-line.ensures k.before.read.given.1 in
+    let on = lines_on walked (read k).read-line.ensures k.before.read.given.1 in
     omega (arith, less, on.within)
 
 loop-again : tie.Need-loop-preserved invariant-loop decreases-loop
@@ -120,13 +120,13 @@ loop-again c =
     let end = (at w).loop.end in
     let buffer = (at w).loop.buffer in
     let part = w.write-line.new.0 in (
-      rw (put-end end buffer part)
+      rw (put_end end buffer part)
           (writing_more (text k) (start k).pre (at w).loop.invariant.0 (read k).read-line.ensures k.before.read.given.1 (filled w)),
       same_len_mid end (length buffer - end) buffer part w.write-line.auto.0 ∙ (at w).loop.invariant.1,
     )
 
-pub write-run-spec : {M : Type 1} → statement M
-write-run-spec =
+pub write_run_spec : {M : Type 1} → statement M
+write_run_spec =
     tie.close
     (tie.spec
     invariant-loop

@@ -6,7 +6,7 @@ use mathlib.Core.Path.{◌≡◌, refl}
 use Prim.Native.Nat.{◌-◌, ◌≤◌}
 use native.Mathlib.Omega.{arith}
 use lib.ListN.{length}
-use Rattle.lanes.proofs.WordLaws.{WordTo, word-starts, word-ends, word-left, literal-below, word-goes-on}
+use Rattle.lanes.proofs.WordLaws.{WordTo, word_starts, word_ends, word_left, literal_below, word_goes_on}
 use Rattle.lanes.proofs.words.body_word.Statement.{statement}
 use Rattle.lanes.proofs.words.body_word.Tie as tie
 
@@ -17,13 +17,13 @@ abbrev decreases-loop : tie.decreases-loop
 decreases-loop body set negated lanes count word₀ i₀ word i = count - i
 
 loop-holds : tie.Need-loop-init invariant-loop decreases-loop
-loop-holds c = let a = c.before.args in (omega arith, (refl, word-starts a.body.now a.set.now a.negated.now a.lanes))
+loop-holds c = let a = c.before.args in (omega arith, (refl, word_starts a.body.now a.set.now a.negated.now a.lanes))
 
 returns : tie.Need-returns invariant-loop decreases-loop
 returns c =
     let a = c.before.before.before.before.args in
     let l = c.before.before.loop in
-    word-left a.body.now a.set.now a.negated.now a.lanes l.i l.word l.invariant.1.1
+    word_left a.body.now a.set.now a.negated.now a.lanes l.i l.word l.invariant.1.1
     c.if1.true
 
 body-literal-in-requires : tie.Need-body-literal-in-requires invariant-loop decreases-loop
@@ -34,7 +34,7 @@ word-of-requires c κs =
     let s = c.before.before.before.before.before in
     let a = s.args in
     let l = c.before.before.before.loop in
-    literal-below a.body.now a.set.now a.negated.now a.lanes l.i l.word l.invariant.1.1 (omega arith)
+    literal_below a.body.now a.set.now a.negated.now a.lanes l.i l.word l.invariant.1.1 (omega arith)
     c.body-literal-in.ensures 513 s.requires
 
 add-i : tie.Need-overflow-add-i invariant-loop decreases-loop
@@ -51,7 +51,7 @@ loop-again c =
       (
         refl,
         rw c.word_of.ensures
-            (word-goes-on a.body.now a.set.now a.negated.now a.lanes l.i l.word l.invariant.1.1 (omega arith)
+            (word_goes_on a.body.now a.set.now a.negated.now a.lanes l.i l.word l.invariant.1.1 (omega arith)
             c.before.body-literal-in.ensures),
       ),
     )
@@ -60,10 +60,10 @@ returns-2 : tie.Need-returns-2 invariant-loop decreases-loop
 returns-2 c =
     let a = c.before.before.before.args in
     let l = c.before.loop in
-    word-ends a.body.now a.set.now a.negated.now a.lanes l.i l.word l.invariant.1.1 (omega arith)
+    word_ends a.body.now a.set.now a.negated.now a.lanes l.i l.word l.invariant.1.1 (omega arith)
 
-pub body-word-spec : {M : Type 1} → statement M
-body-word-spec =
+pub body_word_spec : {M : Type 1} → statement M
+body_word_spec =
     tie.close
     (tie.spec
     invariant-loop

@@ -1,7 +1,7 @@
 -- `lanes::words::in_lane` meets its contract.
 -- Assumes nothing.
 use borrow.Author.Rules.{rules}
-use Rattle.lanes.specs.Lanes.{inLane}
+use Rattle.lanes.specs.Lanes.{lane_bit}
 use Rattle.lanes.proofs.words.in_lane.Statement.{statement}
 use Rattle.lanes.proofs.words.in_lane.Tie as tie
 
@@ -9,8 +9,8 @@ shr-result : tie.Need-overflow-shr-result
 shr-result c = search rules
 
 returns : tie.Need-returns
-unfolding inLane
+unfolding lane_bit
 returns c = search rules
 
-pub in-lane-spec : {M : Type 1} → statement M
-in-lane-spec = tie.close (tie.spec shr-result returns)
+pub in_lane_spec : {M : Type 1} → statement M
+in_lane_spec = tie.close (tie.spec shr-result returns)

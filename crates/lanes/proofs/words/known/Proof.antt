@@ -14,5 +14,5 @@ each c o = search rules
 returns : tie.Need-returns
 returns c = record { many = search rules; fits = λ o. (each c o).fits }
 
-pub known-spec : {M : Type 1} → statement M
-known-spec = tie.close (tie.spec returns)
+pub known_spec : {M : Type 1} → statement M
+known_spec = tie.close (tie.spec returns)

@@ -4,7 +4,7 @@ use borrow.Author.Rules.{rules}
 use mathlib.Core.Path.{sym, ◌∙◌}
 use native.Mathlib.Omega.{arith}
 use Rattle.literals.specs.BodyLiterals.{Below}
-use Rattle.lanes.proofs.WordLaws.{word-negated, word-bare}
+use Rattle.lanes.proofs.WordLaws.{word_negated, word_bare}
 use Rattle.lanes.proofs.words.literal_word.Statement.{statement}
 use Rattle.lanes.proofs.words.literal_word.Tie as tie
 
@@ -34,18 +34,18 @@ returns : tie.Need-returns
 returns c =
     let a = c.before.before.before.before.args in
     let o = c.before.before.before.objective-of in
-    word-negated a.l o.result.0 a.set.now a.negated.now o.ensures
+    word_negated a.l o.result.0 a.set.now a.negated.now o.ensures
     (sym c.before.before.is-default-negated.ensures ∙ c.before.if1.true)
 
 returns-2 : tie.Need-returns-2
 returns-2 c =
     let a = c.before.before.before.before.args in
     let o = c.before.before.before.objective-of in
-    word-bare a.l o.result.0 a.set.now a.negated.now o.ensures
+    word_bare a.l o.result.0 a.set.now a.negated.now o.ensures
     (sym c.before.before.is-default-negated.ensures ∙ c.before.if1.false)
 
-pub literal-word-spec : {M : Type 1} → statement M
-literal-word-spec =
+pub literal_word_spec : {M : Type 1} → statement M
+literal_word_spec =
     tie.close
     (tie.spec
     objective-of-requires

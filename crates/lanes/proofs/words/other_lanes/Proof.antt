@@ -8,5 +8,5 @@ use Rattle.lanes.proofs.words.other_lanes.Tie as tie
 returns : tie.Need-returns
 returns c = record { at = λ l h. lane_not l c.args.word h (search rules) }
 
-pub other-lanes-spec : {M : Type 1} → statement M
-other-lanes-spec = tie.close (tie.spec returns)
+pub other_lanes_spec : {M : Type 1} → statement M
+other_lanes_spec = tie.close (tie.spec returns)

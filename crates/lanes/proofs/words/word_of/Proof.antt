@@ -21,5 +21,5 @@ returns-2 : tie.Need-returns-2
 unfolding word_of
 returns-2 c = rw c.enum_told.given.1
 
-pub word-of-spec : {M : Type 1} → statement M
-word-of-spec = tie.close (tie.spec enum-known-l literal-word-requires enum_told returns returns-2)
+pub word_of_spec : {M : Type 1} → statement M
+word_of_spec = tie.close (tie.spec enum-known-l literal-word-requires enum_told returns returns-2)

@@ -34,5 +34,5 @@ returns-4 : tie.Need-returns-4
 unfolding number_of
 returns-4 c = rw c.before.l4.given.1 (omega arith)
 
-pub atom-in-spec : {M : Type 1} → statement M
-atom-in-spec = tie.close (tie.spec enum-known-l enum-known-l-2 enum-known-l-3 enum-known-l-4 returns returns-2 returns-3 returns-4)
+pub atom_in_spec : {M : Type 1} → statement M
+atom_in_spec = tie.close (tie.spec enum-known-l enum-known-l-2 enum-known-l-3 enum-known-l-4 returns returns-2 returns-3 returns-4)

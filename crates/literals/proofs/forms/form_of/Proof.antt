@@ -22,5 +22,5 @@ returns c = rw (← c.before.before.is-literal-listed.ensures, c.before.if1.true
 returns-2 : tie.Need-returns-2
 returns-2 c = rw (← c.before.is-literal-listed.ensures, c.if1.false)
 
-pub form-of-spec : {M : Type 1} → statement M
-form-of-spec = tie.close (tie.spec is-literal-listed-requires literal-form-requires returns returns-2)
+pub form_of_spec : {M : Type 1} → statement M
+form_of_spec = tie.close (tie.spec is-literal-listed-requires literal-form-requires returns returns-2)

@@ -41,5 +41,5 @@ returns-2 c =
     let a = (start w).args in
     rw (lt-ltb (2 * a.o.0) (4 * a.atoms) (omega (arith, below w))) (ap Is c.literal-form.ensures)
 
-pub objective-form-spec : {M : Type 1} → statement M
-objective-form-spec = tie.close (tie.spec is-listed-requires returns mul-number literal-form-requires returns-2)
+pub objective_form_spec : {M : Type 1} → statement M
+objective_form_spec = tie.close (tie.spec is-listed-requires returns mul-number literal-form-requires returns-2)

@@ -34,5 +34,5 @@ returns-4 : tie.Need-returns-4
 unfolding number_of
 returns-4 c = rw c.enum-told4.given.1 (omega arith)
 
-pub place-in-spec : {M : Type 1} → statement M
-place-in-spec = tie.close (tie.spec enum_told enum-told-2 enum-told-3 enum-told-4 returns returns-2 returns-3 returns-4)
+pub place_in_spec : {M : Type 1} → statement M
+place_in_spec = tie.close (tie.spec enum_told enum-told-2 enum-told-3 enum-told-4 returns returns-2 returns-3 returns-4)

@@ -41,8 +41,8 @@ same_length c = search rules
 returns : tie.Need-returns invariant-loop decreases-loop
 returns c = search rules
 
-pub finishing-order-spec : {M : Type 1} → statement M
-finishing-order-spec =
+pub finishing_order_spec : {M : Type 1} → statement M
+finishing_order_spec =
     tie.close
     (tie.spec
     invariant-loop

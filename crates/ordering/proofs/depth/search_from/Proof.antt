@@ -58,8 +58,8 @@ same-length-6 c = search rules
 returns-2 : tie.Need-returns-2 invariant-loop decreases-loop
 returns-2 c = search rules
 
-pub search-from-spec : {M : Type 1} → statement M
-search-from-spec =
+pub search_from_spec : {M : Type 1} → statement M
+search_from_spec =
     tie.close
     (tie.spec
     invariant-loop

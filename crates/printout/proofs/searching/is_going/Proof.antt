@@ -1,6 +1,6 @@
 -- `printout::searching::is_going` meets its contract.
 -- Assumes nothing.
-use Rattle.printout.specs.DeskSearch.{isGoing}
+use Rattle.printout.specs.DeskSearch.{is_going}
 use borrow.Author.Rules.{rules}
 use Rattle.printout.proofs.searching.is_going.Statement.{statement}
 use Rattle.printout.proofs.searching.is_going.Tie as tie
@@ -15,16 +15,16 @@ enum-told-3 : tie.Need-enum-told-3
 enum-told-3 c = search rules
 
 returns : tie.Need-returns
-unfolding isGoing
+unfolding is_going
 returns c = rw c.enum_told.given.1
 
 returns-2 : tie.Need-returns-2
-unfolding isGoing
+unfolding is_going
 returns-2 c = rw c.enum-told2.given.1
 
 returns-3 : tie.Need-returns-3
-unfolding isGoing
+unfolding is_going
 returns-3 c = rw c.enum-told3.given.1
 
-pub is-going-spec : {M : Type 1} → statement M
-is-going-spec = tie.close (tie.spec enum_told enum-told-2 enum-told-3 returns returns-2 returns-3)
+pub is_going_spec : {M : Type 1} → statement M
+is_going_spec = tie.close (tie.spec enum_told enum-told-2 enum-told-3 returns returns-2 returns-3)

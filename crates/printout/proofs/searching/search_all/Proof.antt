@@ -8,19 +8,19 @@ use borrow.Author.Rules.{rules}
 use lib.ListN.{length}
 use Rattle.steps.specs.Explanations.{Problem, stop}
 use Rattle.printout.specs.declared.searching.Progress.{Progress}
-use Rattle.printout.specs.DeskSearch.{problemOn, Stands, GoneOn, Finished}
+use Rattle.printout.specs.DeskSearch.{problem_on, Stands, GoneOn, Finished}
 use Rattle.printout.proofs.TurnLaws.{left, Turned, turned, begins}
 use Rattle.printout.proofs.searching.search_all.Statement.{statement}
 use Rattle.printout.proofs.searching.search_all.Tie as tie
 
 abbrev invariant-loop : tie.invariant-loop
 invariant-loop file sheet dual₀ list₀ progress₀ going₀ dual list progress going =
-    Stands (problemOn file sheet) list progress
-    × ((going ≡ false → Finished (problemOn file sheet) (length list₀) progress)
+    Stands (problem_on file sheet) list progress
+    × ((going ≡ false → Finished (problem_on file sheet) (length list₀) progress)
     × ((length dual ≡ length dual₀) × (length list ≡ length list₀)))
 
 abbrev decreases-loop : tie.decreases-loop
-decreases-loop file sheet dual₀ list₀ progress₀ going₀ dual list progress going = left (problemOn file sheet) progress going
+decreases-loop file sheet dual₀ list₀ progress₀ going₀ dual list progress going = left (problem_on file sheet) progress going
 
 -- ---- once a turn's call is made
 
@@ -38,7 +38,7 @@ module _ (c : tie.After-is-going invariant-loop decreases-loop) where
   start = head.before.before.before.before.before.before
 
   abbrev problem : Problem
-  problem = problemOn start.args.file.now start.args.sheet.now
+  problem = problem_on start.args.file.now start.args.sheet.now
 
   abbrev progress : Progress
   progress = called.go_on.result
@@ -59,7 +59,7 @@ begin-requires c κs = search rules
 loop-holds : tie.Need-loop-init invariant-loop decreases-loop
 loop-holds c =
     let a = c.before.before.before.before.before.args in (
-      begins (problemOn a.file.now a.sheet.now) a.list.now _ c.begin.ensures refl refl,
+      begins (problem_on a.file.now a.sheet.now) a.list.now _ c.begin.ensures refl refl,
       ((λ h. absurd (true≢false cc)), (refl, refl)),
     )
 
@@ -92,8 +92,8 @@ same-length-2 c = c.before.loop.invariant.1.1.1
 returns : tie.Need-returns invariant-loop decreases-loop
 returns c = (c.before.loop.invariant.0, c.before.loop.invariant.1.0 c.loop-test.false)
 
-pub search-all-spec : {M : Type 1} → statement M
-search-all-spec =
+pub search_all_spec : {M : Type 1} → statement M
+search_all_spec =
     tie.close
     (tie.spec
     invariant-loop

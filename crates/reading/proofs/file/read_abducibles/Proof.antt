@@ -5,10 +5,10 @@ use mathlib.Core.Bool.{false}
 use mathlib.Core.List.{List}
 use Prim.Native.Nat.{ℕ}
 use Rattle.papers.specs.declared.Paper.TheVariants.{File}
-use Rattle.papers.specs.Reading.{readAbducibles}
-use Rattle.papers.proofs.Checks.{passing-refuses}
-use Rattle.papers.proofs.FieldGot.{Got, got-content, got-refused}
-use Rattle.papers.proofs.NumbersWalked.{count-numbers}
+use Rattle.papers.specs.Reading.{read_abducibles}
+use Rattle.papers.proofs.Checks.{passing_refuses}
+use Rattle.papers.proofs.FieldGot.{Got, got_content, got_refused}
+use Rattle.papers.proofs.NumbersWalked.{count_numbers}
 use borrow.Author.Rules.{rules}
 use Rattle.reading.proofs.file.read_abducibles.Statement.{statement}
 use Rattle.reading.proofs.file.read_abducibles.Tie as tie
@@ -23,7 +23,7 @@ module _ (c : tie.After-known-told) where
   asked = c.before.before.before
 
   field : Got File 0x03 false 9 (file asked) c.before.got.given.0.0 c.before.got.given.0.1.0
-  field = got-content _ _ _ _ _ asked.read-field.ensures _ _ c.before.got.given.1
+  field = got_content _ _ _ _ _ asked.read-field.ensures _ _ c.before.got.given.1
 
 read-field-requires : tie.Need-read-field-requires
 read-field-requires c κs = search rules
@@ -44,11 +44,11 @@ returns : tie.Need-returns
 returns c = search rules
 
 returns-2 : tie.Need-returns-2
-unfolding readAbducibles
+unfolding read_abducibles
 returns-2 c =
     let other = c.before.before.before.before in
     let asked = other.before.before in
-    rw (got-refused File 0x03 false 9 (file asked) asked.read-field.ensures (other.got2.given.1 ∙ c.before.got3.given.1))
+    rw (got_refused File 0x03 false 9 (file asked) asked.read-field.ensures (other.got2.given.1 ∙ c.before.got3.given.1))
 
 sub-abducibles-fault : tie.Need-overflow-sub-abducibles-fault
 sub-abducibles-fault c = (field c).ordered
@@ -63,24 +63,24 @@ abducibles-fault-requires : tie.Need-abducibles-fault-requires
 abducibles-fault-requires c κs = search rules
 
 returns-3 : tie.Need-returns-3
-unfolding readAbducibles
+unfolding read_abducibles
 returns-3 c =
     let tested = c.before in
     let whole = tested.before.before in
-    rw ((field whole).read, ← tested.abducibles-fault.ensures, passing-refuses _ File 9 _ c.if1.true)
+    rw ((field whole).read, ← tested.abducibles-fault.ensures, passing_refuses _ File 9 _ c.if1.true)
 
 sub-t10 : tie.Need-overflow-sub-t10
 sub-t10 c = (field c.before.before.before).ordered
 
 returns-4 : tie.Need-returns-4
-unfolding readAbducibles
+unfolding read_abducibles
 returns-4 c =
     let tested = c.before in
     let whole = tested.before.before in
-    rw ((field whole).read, ← tested.abducibles-fault.ensures, c.if1.false, count-numbers, (field whole).sized)
+    rw ((field whole).read, ← tested.abducibles-fault.ensures, c.if1.false, count_numbers, (field whole).sized)
 
-pub read-abducibles-spec : {M : Type 1} → statement M
-read-abducibles-spec =
+pub read_abducibles_spec : {M : Type 1} → statement M
+read_abducibles_spec =
     tie.close
     (tie.spec
     read-field-requires

@@ -9,10 +9,10 @@ use borrow.Author.Tests.{le-leb, lt-leb}
 use Rattle.papers.specs.declared.Paper.TheVariants.{File}
 use lib.ListN.{length, take, drop}
 use Rattle.papers.specs.Field.{fewest}
-use Rattle.papers.specs.Content.{atomsFault}
-use Rattle.papers.specs.Reading.{readAtoms}
-use Rattle.papers.proofs.FieldGot.{Got, got-content, got-refused, pairs-length}
-use Rattle.papers.proofs.NumbersWalked.{first-number}
+use Rattle.papers.specs.Content.{atoms_fault}
+use Rattle.papers.specs.Reading.{read_atoms}
+use Rattle.papers.proofs.FieldGot.{Got, got_content, got_refused, pairs_length}
+use Rattle.papers.proofs.NumbersWalked.{first_number}
 use borrow.Author.Rules.{rules}
 use Rattle.reading.proofs.file.read_atoms.Statement.{statement}
 use Rattle.reading.proofs.file.read_atoms.Tie as tie
@@ -33,12 +33,12 @@ module _ (c : tie.After-known-told) where
   end = c.before.got.given.0.1.0
 
   field : Got File 0x02 false 4 (file asked) from end
-  field = got-content _ _ _ _ _ asked.read-field.ensures _ _ c.before.got.given.1
+  field = got_content _ _ _ _ _ asked.read-field.ensures _ _ c.before.got.given.1
 
   -- Its content is one two-byte number.
   pair : 1 < length (take (end - from) (drop from (file asked)))
   unfolding fewest
-  pair = let f = field in omega (arith, f.sized, (pairs-length 0x02 _ (λ e. omega arith) f.allowed).least)
+  pair = let f = field in omega (arith, f.sized, (pairs_length 0x02 _ (λ e. omega arith) f.allowed).least)
 
 read-field-requires : tie.Need-read-field-requires
 read-field-requires c κs = search rules
@@ -59,11 +59,11 @@ returns : tie.Need-returns
 returns c = search rules
 
 returns-2 : tie.Need-returns-2
-unfolding readAtoms
+unfolding read_atoms
 returns-2 c =
     let other = c.before.before.before.before in
     let asked = other.before.before in
-    rw (got-refused File 0x02 false 4 (file asked) asked.read-field.ensures (other.got2.given.1 ∙ c.before.got3.given.1))
+    rw (got_refused File 0x02 false 4 (file asked) asked.read-field.ensures (other.got2.given.1 ∙ c.before.got3.given.1))
 
 sub-number-at : tie.Need-overflow-sub-number-at
 sub-number-at c = (field c).ordered
@@ -78,28 +78,28 @@ number-at-requires : tie.Need-number-at-requires
 number-at-requires c κs = pair c.before
 
 returns-3 : tie.Need-returns-3
-unfolding readAtoms atomsFault
+unfolding read_atoms atoms_fault
 returns-3 c =
     let number = c.before in
     let whole = number.before.before in
-    rw ((field whole).read, first-number _ (pair whole) number.number_at.ensures.0, lt-leb 1 _ c.if1.true)
+    rw ((field whole).read, first_number _ (pair whole) number.number_at.ensures.0, lt-leb 1 _ c.if1.true)
 
 returns-4 : tie.Need-returns-4
-unfolding readAtoms atomsFault
+unfolding read_atoms atoms_fault
 returns-4 c =
     let number = c.before.before in
     let whole = number.before.before in
-    rw ((field whole).read, first-number _ (pair whole) number.number_at.ensures.0, le-leb 1 _ c.before.if1.false, lt-leb _ 256 c.if2.true)
+    rw ((field whole).read, first_number _ (pair whole) number.number_at.ensures.0, le-leb 1 _ c.before.if1.false, lt-leb _ 256 c.if2.true)
 
 returns-5 : tie.Need-returns-5
-unfolding readAtoms atomsFault
+unfolding read_atoms atoms_fault
 returns-5 c =
     let number = c.before.before in
     let whole = number.before.before in
-    rw ((field whole).read, first-number _ (pair whole) number.number_at.ensures.0, le-leb 1 _ c.before.if1.false, le-leb _ 256 c.if2.false)
+    rw ((field whole).read, first_number _ (pair whole) number.number_at.ensures.0, le-leb 1 _ c.before.if1.false, le-leb _ 256 c.if2.false)
 
-pub read-atoms-spec : {M : Type 1} → statement M
-read-atoms-spec =
+pub read_atoms_spec : {M : Type 1} → statement M
+read_atoms_spec =
     tie.close
     (tie.spec
     read-field-requires

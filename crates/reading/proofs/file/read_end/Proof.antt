@@ -3,8 +3,8 @@
 use mathlib.Core.Path.{◌∙◌}
 use mathlib.Core.Bool.{false}
 use borrow.Author.Tests.{eq-eqb, ne_eqb}
-use Rattle.papers.specs.Reading.{readEnd}
-use Rattle.papers.proofs.FieldGot.{Got, got-content, got-refused}
+use Rattle.papers.specs.Reading.{read_end}
+use Rattle.papers.proofs.FieldGot.{Got, got_content, got_refused}
 use borrow.Author.Rules.{rules}
 use Rattle.reading.proofs.file.read_end.Statement.{statement}
 use Rattle.reading.proofs.file.read_end.Tie as tie
@@ -20,7 +20,7 @@ module _ (c : tie.After-known-told) where
 
   field : Got (start asked).args.paper 0x7F false (start asked).args.place (start asked).args.bytes.now
       c.before.got.given.0.0 c.before.got.given.0.1.0
-  field = got-content _ _ _ _ _ asked.read-field.ensures _ _ c.before.got.given.1
+  field = got_content _ _ _ _ _ asked.read-field.ensures _ _ c.before.got.given.1
 
 read-field-requires : tie.Need-read-field-requires
 read-field-requires c κs = search rules
@@ -41,23 +41,23 @@ returns : tie.Need-returns
 returns c = search rules
 
 returns-2 : tie.Need-returns-2
-unfolding readEnd
+unfolding read_end
 returns-2 c =
     let other = c.before.before.before.before in
     let asked = other.before.before in
     let a = (start asked).args in
-    rw (got-refused a.paper 0x7F false a.place a.bytes.now asked.read-field.ensures (other.got2.given.1 ∙ c.before.got3.given.1))
+    rw (got_refused a.paper 0x7F false a.place a.bytes.now asked.read-field.ensures (other.got2.given.1 ∙ c.before.got3.given.1))
 
 returns-3 : tie.Need-returns-3
-unfolding readEnd
+unfolding read_end
 returns-3 c = let f = field c.before in rw (f.read, ← f.starts, ne_eqb _ _ c.if1.true)
 
 returns-4 : tie.Need-returns-4
-unfolding readEnd
+unfolding read_end
 returns-4 c = let f = field c.before in rw (f.read, ← f.starts, eq-eqb _ _ c.if1.false)
 
-pub read-end-spec : {M : Type 1} → statement M
-read-end-spec =
+pub read_end_spec : {M : Type 1} → statement M
+read_end_spec =
     tie.close
     (tie.spec
     read-field-requires

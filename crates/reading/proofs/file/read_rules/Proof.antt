@@ -8,22 +8,22 @@ use lib.ListN.{take, drop}
 use Rattle.papers.specs.declared.RunRead.{RunRead}
 use Rattle.papers.specs.Outcome.{Outcome}
 use Rattle.papers.specs.Field.{numbers}
-use Rattle.papers.specs.Reading.{Run, readRun}
-use Rattle.papers.specs.Answers.{runAnswer}
-use Rattle.papers.proofs.ReadersGot.{Ran, run-accepted, run-not, number-accepted, number-refused}
-use Rattle.papers.proofs.RulesToEnd.{listedIn, rules-refused, rules-within, integrity-refused, integrity-within, end_refused, all-accepted}
+use Rattle.papers.specs.Reading.{Run, read_run}
+use Rattle.papers.specs.Answers.{run_answer}
+use Rattle.papers.proofs.ReadersGot.{Ran, run_accepted, run_not, number_accepted, number_refused}
+use Rattle.papers.proofs.RulesToEnd.{listed_in, rules_refused, rules_within, integrity_refused, integrity_within, end_refused, all_accepted}
 use borrow.Author.Rules.{rules}
 use Rattle.reading.proofs.file.read_rules.Statement.{statement}
 use Rattle.reading.proofs.file.read_rules.Tie as tie
 
 -- The part from place 12 on, as the code takes it and as the contract names it.
-listed-part : (count : ℕ) (bytes : List ℕ) → numbers (take (12 + 2 * count - 12) (drop 12 bytes)) ≡ listedIn count bytes
-listed-part count bytes = let e : 12 + 2 * count - 12 ≡ 2 * count = omega arith in ap (λ (k : ℕ). numbers (take k (drop 12 bytes))) e
+listed_part : (count : ℕ) (bytes : List ℕ) → numbers (take (12 + 2 * count - 12) (drop 12 bytes)) ≡ listed_in count bytes
+listed_part count bytes = let e : 12 + 2 * count - 12 ≡ 2 * count = omega arith in ap (λ (k : ℕ). numbers (take k (drop 12 bytes))) e
 
-run-listed : (tag n count room place : ℕ) (bytes : List ℕ) {got : RunRead}
-    → got ≡ runAnswer 0 (readRun tag n (numbers (take (12 + 2 * count - 12) (drop 12 bytes))) room place bytes)
-    → got ≡ runAnswer 0 (readRun tag n (listedIn count bytes) room place bytes)
-run-listed tag n count room place bytes e = e ∙ ap (λ (l : List ℕ). runAnswer 0 (readRun tag n l room place bytes)) (listed-part count bytes)
+run_listed : (tag n count room place : ℕ) (bytes : List ℕ) {got : RunRead}
+    → got ≡ run_answer 0 (read_run tag n (numbers (take (12 + 2 * count - 12) (drop 12 bytes))) room place bytes)
+    → got ≡ run_answer 0 (read_run tag n (listed_in count bytes) room place bytes)
+run_listed tag n count room place bytes e = e ∙ ap (λ (l : List ℕ). run_answer 0 (read_run tag n l room place bytes)) (listed_part count bytes)
 
 -- ---- once the rules are asked for
 
@@ -36,10 +36,10 @@ module _ (c : tie.After-read-run) where
 
   -- A run of the file's fields, as the contract names it.
   abbrev run : ℕ → ℕ → ℕ → Outcome Run
-  run tag limit place = readRun tag start.args.atoms (listedIn start.args.abducibles file) limit place file
+  run tag limit place = read_run tag start.args.atoms (listed_in start.args.abducibles file) limit place file
 
-  rules-told : c.read-run.result ≡ runAnswer 0 (run 0x04 1024 (12 + 2 * start.args.abducibles))
-  rules-told = run-listed 0x04 start.args.atoms start.args.abducibles 1024 _ file c.read-run.ensures
+  rules_told : c.read-run.result ≡ run_answer 0 (run 0x04 1024 (12 + 2 * start.args.abducibles))
+  rules_told = run_listed 0x04 start.args.atoms start.args.abducibles 1024 _ file c.read-run.ensures
 
 -- ---- once they are read
 
@@ -51,8 +51,8 @@ module _ (c : tie.After-known-told) where
   abbrev next : ℕ
   next = c.before.rules.given.0.1.0
 
-  rules-ran : Ran (run first 0x04 1024 (12 + 2 * (start first).args.abducibles)) c.before.rules.given.0.0 next
-  rules-ran = run-accepted _ (rules-told first) c.before.rules.given.1
+  rules_ran : Ran (run first 0x04 1024 (12 + 2 * (start first).args.abducibles)) c.before.rules.given.0.0 next
+  rules_ran = run_accepted _ (rules_told first) c.before.rules.given.1
 
 -- ---- once the integrity rules are asked for
 
@@ -60,8 +60,8 @@ module _ (c : tie.After-read-run2) where
   abbrev ruled : tie.After-known-told
   ruled = c.before
 
-  integrity-told : c.read-run2.result ≡ runAnswer 0 (run (first ruled) 0x05 256 (next ruled))
-  integrity-told = let s = first ruled in run-listed 0x05 (start s).args.atoms (start s).args.abducibles 256 _ (file s) c.read-run2.ensures
+  integrity_told : c.read-run2.result ≡ run_answer 0 (run (first ruled) 0x05 256 (next ruled))
+  integrity_told = let s = first ruled in run_listed 0x05 (start s).args.atoms (start s).args.abducibles 256 _ (file s) c.read-run2.ensures
 
 -- ---- once they are read
 
@@ -69,8 +69,8 @@ module _ (c : tie.After-known-told4) where
   abbrev second : tie.After-read-run2
   second = c.before.before.before
 
-  integrity-ran : Ran (run (first (ruled second)) 0x05 256 (next (ruled second))) c.before.denials.given.0.0 c.before.denials.given.0.1.0
-  integrity-ran = run-accepted _ (integrity-told second) c.before.denials.given.1
+  integrity_ran : Ran (run (first (ruled second)) 0x05 256 (next (ruled second))) c.before.denials.given.0.0 c.before.denials.given.0.1.0
+  integrity_ran = run_accepted _ (integrity_told second) c.before.denials.given.1
 
 mul-first : tie.Need-overflow-mul-first
 mul-first c = search rules
@@ -113,13 +113,13 @@ returns-2 c =
     let other = c.before.before.before.before in
     let asked = other.before.before in
     let a = (start asked).args in
-    rules-refused a.atoms a.abducibles (file asked) (start asked).requires
-    (run-not _ (rules-told asked) (other.rules2.given.1 ∙ c.before.rules3.given.1))
+    rules_refused a.atoms a.abducibles (file asked) (start asked).requires
+    (run_not _ (rules_told asked) (other.rules2.given.1 ∙ c.before.rules3.given.1))
 
 read-run-requires-2 : tie.Need-read-run-requires-2
 read-run-requires-2 c κs =
     let s = start (first c) in
-    (rules-within s.args.atoms s.args.abducibles s.args.file.now s.pre (rules-ran c), (λ e. omega arith, omega arith))
+    (rules_within s.args.atoms s.args.abducibles s.args.file.now s.pre (rules_ran c), (λ e. omega arith, omega arith))
 
 enum-known-denials : tie.Need-enum-known-denials
 enum-known-denials c = search rules
@@ -145,14 +145,14 @@ returns-4 c =
     let asked = other.before.before in
     let rules = ruled asked in
     let s = start (first rules) in
-    integrity-refused s.args.atoms s.args.abducibles s.args.file.now s.pre (rules-ran rules)
-    (run-not _ (integrity-told asked) (other.denials2.given.1 ∙ c.before.denials3.given.1))
+    integrity_refused s.args.atoms s.args.abducibles s.args.file.now s.pre (rules_ran rules)
+    (run_not _ (integrity_told asked) (other.denials2.given.1 ∙ c.before.denials3.given.1))
 
 read-end-requires : tie.Need-read-end-requires
 read-end-requires c κs =
     let rules = ruled (second c) in
     let s = start (first rules) in
-    integrity-within s.args.atoms s.args.abducibles s.args.file.now s.pre (rules-ran rules) (integrity-ran c)
+    integrity_within s.args.atoms s.args.abducibles s.args.file.now s.pre (rules_ran rules) (integrity_ran c)
 
 enum-told-3 : tie.Need-enum-told-3
 enum-told-3 c = search rules
@@ -179,8 +179,8 @@ returns-6 c =
     let integrity = ended.before in
     let rules = ruled (second integrity) in
     let s = start (first rules) in
-    end_refused s.args.atoms s.args.abducibles s.args.file.now s.pre (rules-ran rules) (integrity-ran integrity)
-    (number-refused _ ended.read-end.ensures (other.end.given.1 ∙ c.before.end2.given.1))
+    end_refused s.args.atoms s.args.abducibles s.args.file.now s.pre (rules_ran rules) (integrity_ran integrity)
+    (number_refused _ ended.read-end.ensures (other.end.given.1 ∙ c.before.end2.given.1))
 
 fields-at-requires : tie.Need-fields-at-requires
 fields-at-requires c κs = search rules
@@ -196,11 +196,11 @@ returns-7 c =
     let rules = ruled (second integrity) in
     let s = start (first rules) in
     rw (c.before.fields_at.ensures, c.fields-at2.ensures)
-    (all-accepted s.args.atoms s.args.abducibles s.args.file.now s.pre (rules-ran rules) (integrity-ran integrity)
-    (number-accepted _ ended.read-end.ensures told.enum-told3.given.1))
+    (all_accepted s.args.atoms s.args.abducibles s.args.file.now s.pre (rules_ran rules) (integrity_ran integrity)
+    (number_accepted _ ended.read-end.ensures told.enum-told3.given.1))
 
-pub read-rules-spec : {M : Type 1} → statement M
-read-rules-spec =
+pub read_rules_spec : {M : Type 1} → statement M
+read_rules_spec =
     tie.close
     (tie.spec
     mul-first

@@ -13,11 +13,11 @@ use lib.Dec.{eqb}
 use lib.ListN.{length, get_or, take, drop}
 use Rattle.papers.specs.declared.Paper.TheVariants.{File}
 use Rattle.papers.specs.Outcome.{Outcome, accepted}
-use Rattle.papers.specs.Field.{numbers, fewest, readField}
-use Rattle.papers.specs.Reading.{Run, readRun}
-use Rattle.papers.specs.Answers.{runAnswer}
-use Rattle.papers.proofs.FieldGot.{Got, got-content, got-refused, pairs-length}
-use Rattle.papers.proofs.RunTurn.{run-ended, run-refused, run-fault, run-next}
+use Rattle.papers.specs.Field.{numbers, fewest, read_field}
+use Rattle.papers.specs.Reading.{Run, read_run}
+use Rattle.papers.specs.Answers.{run_answer}
+use Rattle.papers.proofs.FieldGot.{Got, got_content, got_refused, pairs_length}
+use Rattle.papers.proofs.RunTurn.{run_ended, run_refused, run_fault, run_next}
 use Rattle.reading.proofs.file.read_run.Statement.{statement}
 use Rattle.reading.proofs.file.read_run.Tie as tie
 
@@ -25,8 +25,8 @@ use Rattle.reading.proofs.file.read_run.Tie as tie
 record Reached (file abducibles : List ℕ) (tag atoms limit from place count : ℕ) : Type 0 where
   within : place ≤ length file
   few : count ≤ limit
-  same : runAnswer 0 (readRun tag atoms (numbers abducibles) limit from file)
-      ≡ runAnswer count (readRun tag atoms (numbers abducibles) (limit - count) place file)
+  same : run_answer 0 (read_run tag atoms (numbers abducibles) limit from file)
+      ≡ run_answer count (read_run tag atoms (numbers abducibles) (limit - count) place file)
 
 abbrev invariant-loop : tie.invariant-loop
 invariant-loop file abducibles tag atoms limit from place₀ count₀ place count = Reached file abducibles tag atoms limit from place count
@@ -54,7 +54,7 @@ module _ (c : tie.After-read-field invariant-loop decreases-loop) where
 
   -- The run from a place on, where so many more may follow.
   abbrev run : ℕ → ℕ → Outcome Run
-  run room at = readRun start.args.tag start.args.atoms (numbers start.args.abducibles.now) room at file
+  run room at = read_run start.args.tag start.args.atoms (numbers start.args.abducibles.now) room at file
 
   tagged : get_or (drop place file) 0 0 ≡ start.args.tag
   tagged = sym c.before.before.tag_at.ensures ∙ c.before.if1.false
@@ -78,21 +78,21 @@ module _ (c : tie.After-known-told invariant-loop decreases-loop) where
   content = take (end - from) (drop from (file asked))
 
   field : Got File (start asked).args.tag (eqb (count asked) limit) (place asked) (file asked) from end
-  field = got-content _ _ _ _ _ asked.read-field.ensures _ _ c.before.got.given.1
+  field = got_content _ _ _ _ _ asked.read-field.ensures _ _ c.before.got.given.1
 
   -- So there was room for it.
   more : count asked < limit
   more = elim (ℕ_discrete (count asked) limit) [ yes e ↦ absurd (eqb-false _ _ field.room e) | no e ↦ omega arith ]
 
-  read : readField File (start asked).args.tag false (place asked) (file asked) ≡ accepted content
+  read : read_field File (start asked).args.tag false (place asked) (file asked) ≡ accepted content
   read = rw field.room at field.read
 
   -- The whole run is that from here on, with room for this field and those after it.
-  same_here : runAnswer 0 (run asked limit (start asked).args.from)
-      ≡ runAnswer (count asked) (run asked (suc (limit - (count asked + 1))) (place asked))
+  same_here : run_answer 0 (run asked limit (start asked).args.from)
+      ≡ run_answer (count asked) (run asked (suc (limit - (count asked + 1))) (place asked))
   same_here =
       let room : limit - count asked ≡ suc (limit - (count asked + 1)) = omega (arith, more) in
-      (turn asked).loop.inv.same ∙ ap (λ (k : ℕ). runAnswer (count asked) (run asked k (place asked))) room
+      (turn asked).loop.inv.same ∙ ap (λ (k : ℕ). run_answer (count asked) (run asked k (place asked))) room
 
 loop-holds : tie.Need-loop-init invariant-loop decreases-loop
 loop-holds c = record { within = c.before.before.requires.0; few = omega arith; same = rw sub-zero }
@@ -104,7 +104,7 @@ returns : tie.Need-returns invariant-loop decreases-loop
 returns c =
     let turn = c.before.before in
     let a = turn.before.before.before.args in
-    run-ended _ _ _ a.file.now _ turn.loop.place _ (λ e. c.if1.true (c.before.tag_at.ensures ∙ e)) ∙ sym turn.loop.invariant.same
+    run_ended _ _ _ a.file.now _ turn.loop.place _ (λ e. c.if1.true (c.before.tag_at.ensures ∙ e)) ∙ sym turn.loop.invariant.same
 
 read-field-requires : tie.Need-read-field-requires invariant-loop decreases-loop
 read-field-requires c κs = search rules
@@ -130,9 +130,9 @@ returns-3 c =
     let r = other.before.before in
     let limit = (start r).args.limit in
     let here = (turn r).loop.invariant in
-    run-refused _ _ _ (file r) _ (place r) (tagged r) _ (eqb (count r) limit)
+    run_refused _ _ _ (file r) _ (place r) (tagged r) _ (eqb (count r) limit)
     (λ z. eq-eqb (count r) limit (let h = here.few in omega arith)) (λ z. ne_eqb (count r) limit (λ e. z (omega arith)))
-    (got-refused File _ _ (place r) (file r) r.read-field.ensures (other.got2.given.1 ∙ c.before.got3.given.1))
+    (got_refused File _ _ (place r) (file r) r.read-field.ensures (other.got2.given.1 ∙ c.before.got3.given.1))
     ∙ sym here.same
 
 sub-body-fault : tie.Need-overflow-sub-body-fault invariant-loop decreases-loop
@@ -149,7 +149,7 @@ unfolding fewest
 body-fault-requires c κs = λ e.
     let whole = c.before in
     let f = field whole in
-    let p = (pairs-length _ _ (start (asked whole)).pre.1.0 f.allowed).least in
+    let p = (pairs_length _ _ (start (asked whole)).pre.1.0 f.allowed).least in
     let q = ap (λ (t : ℕ). 2 * fewest t) e in
     omega (arith, f.sized)
 
@@ -157,7 +157,7 @@ returns-4 : tie.Need-returns-4 invariant-loop decreases-loop
 returns-4 c =
     let whole = c.before.before.before in
     let r = asked whole in
-    run-fault _ _ _ (file r) _ (place r) (tagged r) _ _ (read whole) c.before.body-fault.ensures c.if2.true
+    run_fault _ _ _ (file r) _ (place r) (tagged r) _ _ (read whole) c.before.body-fault.ensures c.if2.true
     ∙ sym (same_here whole)
 
 add-count : tie.Need-overflow-add-count invariant-loop decreases-loop
@@ -176,12 +176,12 @@ loop-again c =
       within = f.within;
       few = omega (arith, more whole);
       same = same_here whole
-          ∙ run-next _ _ _ (file r) _ (place r) (tagged r) _ _ (read whole) c.before.body-fault.ensures c.if2.false
-          ∙ ap (λ (k : ℕ). runAnswer (count r + 1) (run r (limit whole - (count r + 1)) k)) ends;
+          ∙ run_next _ _ _ (file r) _ (place r) (tagged r) _ _ (read whole) c.before.body-fault.ensures c.if2.false
+          ∙ ap (λ (k : ℕ). run_answer (count r + 1) (run r (limit whole - (count r + 1)) k)) ends;
     }
 
-pub read-run-spec : {M : Type 1} → statement M
-read-run-spec =
+pub read_run_spec : {M : Type 1} → statement M
+read_run_spec =
     tie.close
     (tie.spec
     invariant-loop

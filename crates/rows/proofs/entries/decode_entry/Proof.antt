@@ -9,13 +9,13 @@ use lib.ListN.{length, drop, set, length-set}
 use Rattle.literals.specs.Numbering.{judged}
 use Rattle.papers.specs.Program.{Program}
 use Rattle.papers.specs.Field.{size_of}
-use Rattle.papers.specs.Reading.{programIn}
-use Rattle.papers.proofs.FieldTests.{size-there}
-use Rattle.dual.specs.Table.{foldsOf}
-use Rattle.rows.specs.Rows.{clausesRow, clausesOf, entryRow}
-use Rattle.rows.specs.DualBytes.{literalIn, EntriesAt}
-use Rattle.rows.proofs.RowLaws.{entry-row-length}
-use Rattle.rows.proofs.EntryRows.{any-stands, any_next, any-size, any-whole, any-folds, bare-length, bare-laid, entry-laid}
+use Rattle.papers.specs.Reading.{program_in}
+use Rattle.papers.proofs.FieldTests.{size_there}
+use Rattle.dual.specs.Table.{folds_of}
+use Rattle.rows.specs.Rows.{clauses_row, clauses_of, entry_row}
+use Rattle.rows.specs.DualBytes.{literal_in, EntriesAt}
+use Rattle.rows.proofs.RowLaws.{entry_row_length}
+use Rattle.rows.proofs.EntryRows.{any_stands, any_next, any_size, any_whole, any_folds, bare_length, bare_laid, entry_laid}
 use Rattle.rows.proofs.entries.decode_entry.Statement.{statement}
 use Rattle.rows.proofs.entries.decode_entry.Tie as tie
 
@@ -23,7 +23,7 @@ use Rattle.rows.proofs.entries.decode_entry.Tie as tie
 
 module _ (c : tie.Start) where
   abbrev program : Program
-  program = programIn c.args.file.now
+  program = program_in c.args.file.now
 
   abbrev bytes : List ℕ
   bytes = c.args.dual.now
@@ -46,12 +46,12 @@ module _ (c : tie.Start) where
   within : o < judged program.atoms
   within = c.requires.1.0
 
-  room : at + length (entryRow program o) ≤ length numbers
+  room : at + length (entry_row program o) ≤ length numbers
   room = omega (arith, c.requires.1.1)
 
   -- The row of an entry has two numbers before its clauses.
-  sized : length (entryRow program o) ≡ 2 + length (clausesRow (clausesOf program o))
-  sized = entry-row-length program o
+  sized : length (entry_row program o) ≡ 2 + length (clauses_row (clauses_of program o))
+  sized = entry_row_length program o
 
   -- Writing the first leaves the array as long as it was.
   kept : length (set numbers at o) ≡ length numbers
@@ -69,11 +69,11 @@ module _ (c : tie.Then1) where
   abbrev s : tie.Start
   s = start none_found
 
-  isnt : literalIn (drop (place s) (bytes s)) ≡ o s → ⊥
+  isnt : literal_in (drop (place s) (bytes s)) ≡ o s → ⊥
   isnt e = c.if1.true (none_found.entry-literal.ensures ∙ e)
 
-  bare : length (entryRow (program s) (o s)) ≡ 3
-  bare = bare-length (program s) (bytes s) (o s) (place s) (stands s) (within s) isnt
+  bare : length (entry_row (program s) (o s)) ≡ 3
+  bare = bare_length (program s) (bytes s) (o s) (place s) (stands s) (within s) isnt
 
 -- ---- where the field is o's own
 
@@ -84,12 +84,12 @@ module _ (c : tie.Else1) where
   abbrev begun : tie.Start
   begun = start found
 
-  is : literalIn (drop (place begun) (bytes begun)) ≡ o begun
+  is : literal_in (drop (place begun) (bytes begun)) ≡ o begun
   is = sym found.entry-literal.ensures ∙ c.if1.false
 
   -- it stands whole,
-  whole : place begun + 5 + 2 * length (foldsOf (program begun) (o begun)) ≤ length (bytes begun)
-  whole = any-whole (program begun) (bytes begun) (o begun) (place begun) (stands begun) (within begun) is
+  whole : place begun + 5 + 2 * length (folds_of (program begun) (o begun)) ≤ length (bytes begun)
+  whole = any_whole (program begun) (bytes begun) (o begun) (place begun) (stands begun) (within begun) is
 
 -- and has a number for each fold.
 module _ (c : tie.After-number-at) where
@@ -97,10 +97,10 @@ module _ (c : tie.After-number-at) where
   given = begun c.before
 
   read : c.number_at.result ≡ size_of (drop (place given) (bytes given))
-  read = c.number_at.ensures.0 ∙ sym (size-there (place given) (bytes given))
+  read = c.number_at.ensures.0 ∙ sym (size_there (place given) (bytes given))
 
-  counted : c.number_at.result ≡ 2 + 2 * length (foldsOf (program given) (o given))
-  counted = read ∙ any-size (program given) (bytes given) (o given) (place given) (stands given) (within given) (is c.before)
+  counted : c.number_at.result ≡ 2 + 2 * length (folds_of (program given) (o given))
+  counted = read ∙ any_size (program given) (bytes given) (o given) (place given) (stands given) (within given) (is c.before)
 
 -- ---- where its clauses are written
 
@@ -111,16 +111,16 @@ module _ (c : tie.After-slice-known2) where
   abbrev written : List ℕ
   written = c.before.before.decode-folds.new.1.1.1.1.1.0
 
-  written-kept : length written ≡ length (numbers first)
-  written-kept = c.before.before.decode-folds.auto.1.1.1.1.1.0 ∙ kept first
+  written_kept : length written ≡ length (numbers first)
+  written_kept = c.before.before.decode-folds.auto.1.1.1.1.1.0 ∙ kept first
 
-  size : c.before.before.decode-folds.result.at - (at first + 2) ≡ length (clausesRow (clausesOf (program first) (o first)))
+  size : c.before.before.decode-folds.result.at - (at first + 2) ≡ length (clauses_row (clauses_of (program first) (o first)))
   size = omega (arith, c.before.before.decode-folds.ensures.1.0)
 
 entry-literal-requires : tie.Need-entry-literal-requires
 entry-literal-requires c κs =
     let s = c.before.before.before in
-    any-stands (program s) (bytes s) (o s) (place s) (stands s) (within s)
+    any_stands (program s) (bytes s) (o s) (place s) (stands s) (within s)
 
 add_start : tie.Need-overflow-add-start
 add_start c = search rules
@@ -161,7 +161,7 @@ returns c =
       any_next (program g) (bytes g) (o g) (place g) (stands g) (within g) (isnt c),
       (
         omega (arith, bare c),
-        bare-laid (program g) (bytes g) (o g) (place g) (stands g) (within g) (isnt c) (at g) (numbers g) (room g),
+        bare_laid (program g) (bytes g) (o g) (place g) (stands g) (within g) (isnt c) (at g) (numbers g) (room g),
       ),
     )
 
@@ -185,7 +185,7 @@ decode-folds-requires c κs =
     let w = c.before in
     let g = given w in
     let z = read w in (
-      any-folds (program g) (bytes g) (o g) (place g) (stands g) (within g) (is w.before) (place g + 3 + w.number_at.result) (omega arith),
+      any_folds (program g) (bytes g) (o g) (place g) (stands g) (within g) (is w.before) (place g + 3 + w.number_at.result) (omega arith),
       (omega (arith, counted w), omega (arith, room g, sized g, kept g)),
     )
 
@@ -202,10 +202,10 @@ mul-numbers-4 : tie.Need-overflow-mul-numbers-4
 mul-numbers-4 c = search rules
 
 slice-write-numbers-4 : tie.Need-slice-write-numbers-4
-slice-write-numbers-4 c = omega (arith, room (first c), sized (first c), written-kept c)
+slice-write-numbers-4 c = omega (arith, room (first c), sized (first c), written_kept c)
 
 same-length-2 : tie.Need-same-length-2
-same-length-2 c = simp length-set (written-kept c)
+same-length-2 c = simp length-set (written_kept c)
 
 returns-2 : tie.Need-returns-2
 returns-2 c =
@@ -214,12 +214,12 @@ returns-2 c =
       r.ensures.0,
       (
         omega (arith, r.ensures.1.0, sized g),
-        entry-laid (program g) (o g) (at g) (r.result.at - (at g + 2)) (numbers g) (written c) (size c) (room g) r.ensures.1.1,
+        entry_laid (program g) (o g) (at g) (r.result.at - (at g + 2)) (numbers g) (written c) (size c) (room g) r.ensures.1.1,
       ),
     )
 
-pub decode-entry-spec : {M : Type 1} → statement M
-decode-entry-spec =
+pub decode_entry_spec : {M : Type 1} → statement M
+decode_entry_spec =
     tie.close
     (tie.spec
     entry-literal-requires

@@ -7,11 +7,11 @@ use mathlib.Core.List.{List}
 use Prim.Native.Nat.{ℕ, ◌+◌, ◌-◌, ◌*◌, ◌/◌, ◌≤◌}
 use lib.ListN.{length, take, drop, length-drop, length-set}
 use Rattle.papers.specs.Field.{numbers, size_of}
-use Rattle.papers.proofs.FieldTests.{size-there}
-use Rattle.papers.proofs.NumbersWalked.{count-numbers}
-use Rattle.rows.specs.DualBytes.{listedIn}
-use Rattle.rows.proofs.EntryBytes.{listed-part}
-use Rattle.rows.proofs.FoldRows.{clause-laid}
+use Rattle.papers.proofs.FieldTests.{size_there}
+use Rattle.papers.proofs.NumbersWalked.{count_numbers}
+use Rattle.rows.specs.DualBytes.{listed_in}
+use Rattle.rows.proofs.EntryBytes.{listed_part}
+use Rattle.rows.proofs.FoldRows.{clause_laid}
 use Rattle.rows.proofs.entries.decode_fold.Statement.{statement}
 use Rattle.rows.proofs.entries.decode_fold.Tie as tie
 
@@ -36,10 +36,10 @@ module _ (c : tie.After-number-at) where
   part = take (next - (start.args.place + 5)) (drop (start.args.place + 5) start.args.dual.now)
 
   sized : c.number_at.result ≡ size_of bytes
-  sized = c.number_at.ensures.0 ∙ sym (size-there start.args.place start.args.dual.now)
+  sized = c.number_at.ensures.0 ∙ sym (size_there start.args.place start.args.dual.now)
 
-  listed : numbers part ≡ listedIn bytes
-  listed = let e = sized in listed-part start.args.dual.now start.args.place (start.args.place + 5) next refl (omega arith)
+  listed : numbers part ≡ listed_in bytes
+  listed = let e = sized in listed_part start.args.dual.now start.args.place (start.args.place + 5) next refl (omega arith)
 
 add_start : tie.Need-overflow-add-start
 add_start c = omega (arith, within c.before.before)
@@ -102,16 +102,16 @@ returns c =
     let w = c.before.before.before.before.before in
     let a = (start w).args in
     let e = sized w in
-    let n = sym (count-numbers (part w)) ∙ ap length (listed w) in (
+    let n = sym (count_numbers (part w)) ∙ ap length (listed w) in (
       omega arith,
       (
         omega arith,
-        c.before.before.copy-numbers.ensures ∙ clause-laid (part w) (listedIn (bytes w)) a.numbers.now a.at (listed w) (start w).requires.1,
+        c.before.before.copy-numbers.ensures ∙ clause_laid (part w) (listed_in (bytes w)) a.numbers.now a.at (listed w) (start w).requires.1,
       ),
     )
 
-pub decode-fold-spec : {M : Type 1} → statement M
-decode-fold-spec =
+pub decode_fold_spec : {M : Type 1} → statement M
+decode_fold_spec =
     tie.close
     (tie.spec
     add_start

@@ -8,25 +8,25 @@ use mathlib.Core.List.{List}
 use Prim.Native.Nat.{ℕ, ◌+◌, ◌-◌, ◌≤◌, ◌<◌}
 use lib.ListN.{length}
 use Rattle.papers.specs.Program.{Program}
-use Rattle.papers.specs.Reading.{programIn}
-use Rattle.dual.specs.Table.{foldsOf}
-use Rattle.rows.specs.Rows.{clausesRow, clausesOf}
+use Rattle.papers.specs.Reading.{program_in}
+use Rattle.dual.specs.Table.{folds_of}
+use Rattle.rows.specs.Rows.{clauses_row, clauses_of}
 use Rattle.rows.specs.DualBytes.{FoldsAt}
-use Rattle.rows.proofs.FoldRows.{FoldsTo, folds-none, folds-stand, folds-room, folds-more, folds-all}
+use Rattle.rows.proofs.FoldRows.{FoldsTo, folds_none, folds_stand, folds_room, folds_more, folds_all}
 use Rattle.rows.proofs.entries.decode_folds.Statement.{statement}
 use Rattle.rows.proofs.entries.decode_folds.Tie as tie
 
 -- An objective literal has these folds at the place, and there is room for its clauses.
 pub record Given (p : Program) (bytes : List ℕ) (o place folds at : ℕ) (numbers : List ℕ) : Type 0 where
   pub stand : FoldsAt p bytes o 0 place
-  pub counted : folds ≡ length (foldsOf p o)
-  pub room : at + length (clausesRow (clausesOf p o)) ≤ length numbers
+  pub counted : folds ≡ length (folds_of p o)
+  pub room : at + length (clauses_row (clauses_of p o)) ≤ length numbers
 
 abbrev invariant-loop : tie.invariant-loop
 invariant-loop file dual place folds numbers₀ at next₀ end₀ i₀ numbers next end i =
     (i ≤ folds)
     × ((length numbers ≡ length numbers₀)
-    × ((o : ℕ) → Given (programIn file) dual o place folds at numbers₀ → FoldsTo (programIn file) dual o at numbers₀ i next end numbers))
+    × ((o : ℕ) → Given (program_in file) dual o place folds at numbers₀ → FoldsTo (program_in file) dual o at numbers₀ i next end numbers))
 
 abbrev decreases-loop : tie.decreases-loop
 decreases-loop file dual place folds numbers₀ at next₀ end₀ i₀ numbers next end i = folds - i
@@ -36,7 +36,7 @@ module _ (c : tie.At-loop invariant-loop decreases-loop) where
   start = c.before.before.before.before
 
   abbrev program : Program
-  program = programIn start.args.file.now
+  program = program_in start.args.file.now
 
   abbrev bytes : List ℕ
   bytes = start.args.dual.now
@@ -53,7 +53,7 @@ loop-holds c =
       omega arith,
       (
         refl,
-        λ o g. folds-none (programIn a.file.now) a.dual.now o a.at a.numbers.now g.room a.place g.stand,
+        λ o g. folds_none (program_in a.file.now) a.dual.now o a.at a.numbers.now g.room a.place g.stand,
       ),
     )
 
@@ -64,9 +64,9 @@ decode-fold-requires c κs =
     let l = head.loop in
     let g = given head in
     let t = l.invariant.1.1 a.o.0 g in
-    let h : l.i < length (foldsOf (program head) a.o.0) = omega (arith, g.counted) in (
-      folds-stand (program head) (bytes head) a.o.0 a.at (before head) g.room l.i l.next l.end l.numbers t h,
-      folds-room (program head) (bytes head) a.o.0 a.at (before head) g.room l.i l.next l.end l.numbers t h,
+    let h : l.i < length (folds_of (program head) a.o.0) = omega (arith, g.counted) in (
+      folds_stand (program head) (bytes head) a.o.0 a.at (before head) g.room l.i l.next l.end l.numbers t h,
+      folds_room (program head) (bytes head) a.o.0 a.at (before head) g.room l.i l.next l.end l.numbers t h,
     )
 
 add-i : tie.Need-overflow-add-i invariant-loop decreases-loop
@@ -85,8 +85,8 @@ loop-again c =
       (
         r.auto.1.1.0 ∙ l.invariant.1.0,
         λ o g.
-            let h : l.i < length (foldsOf (program head) o) = omega (arith, g.counted) in
-            folds-more (program head) (bytes head) o a.at (before head) g.room l.i l.next l.end l.numbers (l.invariant.1.1 o g) h
+            let h : l.i < length (folds_of (program head) o) = omega (arith, g.counted) in
+            folds_more (program head) (bytes head) o a.at (before head) g.room l.i l.next l.end l.numbers (l.invariant.1.1 o g) h
             r.result.place r.result.at r.new.1.1.0 r.ensures.0 r.ensures.1.0 r.ensures.1.1 r.auto.1.1.0,
       ),
     )
@@ -100,11 +100,11 @@ returns c =
     let a = (start head).args in
     let l = head.loop in
     let g = given head in
-    folds-all (program head) (bytes head) a.o.0 a.at (before head) g.room l.i l.next l.end l.numbers (l.invariant.1.1 a.o.0 g)
+    folds_all (program head) (bytes head) a.o.0 a.at (before head) g.room l.i l.next l.end l.numbers (l.invariant.1.1 a.o.0 g)
     (omega (arith, g.counted))
 
-pub decode-folds-spec : {M : Type 1} → statement M
-decode-folds-spec =
+pub decode_folds_spec : {M : Type 1} → statement M
+decode_folds_spec =
     tie.close
     (tie.spec
     invariant-loop

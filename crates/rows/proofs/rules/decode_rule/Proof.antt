@@ -6,11 +6,11 @@ use mathlib.Core.Path.{◌≡◌, ◌∙◌}
 use mathlib.Core.List.{List}
 use Prim.Native.Nat.{ℕ, ◌+◌, ◌≤◌, ◌/◌}
 use lib.ListN.{length, set, length-set}
-use Rattle.papers.specs.Program.{Rule, ruleAt}
-use Rattle.papers.specs.Reading.{programIn}
-use Rattle.papers.proofs.FoldsWalked.{few-body}
-use Rattle.rows.proofs.RowLaws.{rule-row-length}
-use Rattle.rows.proofs.DecodedLaws.{body-counted, rule-laid}
+use Rattle.papers.specs.Program.{Rule, rule_at}
+use Rattle.papers.specs.Reading.{program_in}
+use Rattle.papers.proofs.FoldsWalked.{few_body}
+use Rattle.rows.proofs.RowLaws.{rule_row_length}
+use Rattle.rows.proofs.DecodedLaws.{body_counted, rule_laid}
 use Rattle.rows.proofs.rules.decode_rule.Statement.{statement}
 use Rattle.rows.proofs.rules.decode_rule.Tie as tie
 
@@ -21,14 +21,14 @@ module _ (c : tie.After-body-of) where
   start = c.before.before.before.before
 
   abbrev rule : Rule
-  rule = ruleAt (programIn start.args.file.now) start.args.fold.0
+  rule = rule_at (program_in start.args.file.now) start.args.fold.0
 
   abbrev body : List ℕ
   body = c.body_of.result.now
 
   -- There is room for the row.
   room : start.args.at + (2 + length rule.body) ≤ length start.args.numbers.now
-  room = let l = rule-row-length rule in omega (arith, start.pre.1.1)
+  room = let l = rule_row_length rule in omega (arith, start.pre.1.1)
 
   -- Writing its first two numbers leaves the array as long as it was.
   kept : (x y : ℕ) → length (set (set start.args.numbers.now start.args.at x) (start.args.at + 1) y) ≡ length start.args.numbers.now
@@ -39,7 +39,7 @@ module _ (c : tie.After-body-of) where
   few : length body ≤ 32
   few =
       let a = start.args in
-      let f = few-body a.file.now a.contents start.pre.0.answer a.fold.0 start.pre.1.0 in
+      let f = few_body a.file.now a.contents start.pre.0.answer a.fold.0 start.pre.1.0 in
       omega (arith, c.body_of.ensures.size)
 
 head-of-requires : tie.Need-head-of-requires
@@ -79,7 +79,7 @@ copy-numbers-requires : tie.Need-copy-numbers-requires
 copy-numbers-requires c κs =
     let w = c.before.before in
     let k = kept w w.before.head_of.result.0 (length (body w) / 2) in
-    let n = body-counted (rule w) (body w) w.body_of.ensures in
+    let n = body_counted (rule w) (body w) w.body_of.ensures in
     omega (arith, room w)
 
 add-result : tie.Need-overflow-add-result
@@ -94,16 +94,16 @@ returns : tie.Need-returns
 returns c =
     let w = c.before.before.before.before.before in
     let a = (start w).args in
-    let n = body-counted (rule w) (body w) w.body_of.ensures in
-    let l = rule-row-length (rule w) in (
+    let n = body_counted (rule w) (body w) w.body_of.ensures in
+    let l = rule_row_length (rule w) in (
       omega (arith, w.body_of.ensures.size),
       c.before.before.copy-numbers.ensures
-          ∙ rule-laid (rule w) (body w) w.body_of.ensures a.at w.before.head_of.result.0 a.numbers.now w.before.head_of.ensures.0
+          ∙ rule_laid (rule w) (body w) w.body_of.ensures a.at w.before.head_of.result.0 a.numbers.now w.before.head_of.ensures.0
           (start w).requires.1.1,
     )
 
-pub decode-rule-spec : {M : Type 1} → statement M
-decode-rule-spec =
+pub decode_rule_spec : {M : Type 1} → statement M
+decode_rule_spec =
     tie.close
     (tie.spec
     head-of-requires

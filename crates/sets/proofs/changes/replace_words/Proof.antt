@@ -6,8 +6,8 @@ use Prim.Native.Nat.{ℕ, ◌-◌, ◌≤◌}
 use native.Mathlib.Omega.{arith}
 use lib.ListN.{length, get_or, length-set}
 use Rattle.lanes.specs.Lanes.{Written, word_at}
-use Rattle.sets.proofs.ChangeLaws.{Compared, compared-none, compared-more, compared-all}
-use Rattle.lanes.proofs.LaneLaws.{written_none, written-more}
+use Rattle.sets.proofs.ChangeLaws.{Compared, compared_none, compared_more, compared_all}
+use Rattle.lanes.proofs.LaneLaws.{written_none, written_more}
 use Rattle.sets.proofs.changes.replace_words.Statement.{statement}
 use Rattle.sets.proofs.changes.replace_words.Tie as tie
 
@@ -24,7 +24,7 @@ lent-known-requires c κs = search rules
 loop-holds : tie.Need-loop-init invariant-loop decreases-loop
 loop-holds c =
     let a = c.before.before.args in
-    (omega arith, (c.lent-known.ensures.many, (written_none (word_at a.by.now) a.words.now, compared-none a.words.now a.by.now)))
+    (omega arith, (c.lent-known.ensures.many, (written_none (word_at a.by.now) a.words.now, compared_none a.words.now a.by.now)))
 
 mul-new : tie.Need-overflow-mul-new invariant-loop decreases-loop
 mul-new c = search rules
@@ -60,8 +60,8 @@ loop-again c =
       (
         simp length-set l.invariant.1.0,
         (
-          written-more (word_at a.by.now) l.o a.words.now l.words (omega (arith, s.requires, l.invariant.1.0)) l.invariant.1.1.0,
-          rw same (compared-more a.words.now a.by.now l.changed l.o l.invariant.1.1.1),
+          written_more (word_at a.by.now) l.o a.words.now l.words (omega (arith, s.requires, l.invariant.1.0)) l.invariant.1.1.0,
+          rw same (compared_more a.words.now a.by.now l.changed l.o l.invariant.1.1.1),
         ),
       ),
     )
@@ -71,13 +71,13 @@ returns c =
     let l = c.before.loop in
     let a = c.before.before.before.before.args in
     let e : l.o ≡ a.count = omega arith in (
-      compared-all a.count a.words.now a.by.now l.changed
+      compared_all a.count a.words.now a.by.now l.changed
           (subst (Compared a.words.now a.by.now l.changed) e l.invariant.1.1.1),
       subst (λ (n : ℕ). Written n (word_at a.by.now) a.words.now l.words) e l.invariant.1.1.0,
     )
 
-pub replace-words-spec : {M : Type 1} → statement M
-replace-words-spec =
+pub replace_words_spec : {M : Type 1} → statement M
+replace_words_spec =
     tie.close
     (tie.spec
     invariant-loop

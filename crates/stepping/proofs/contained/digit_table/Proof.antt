@@ -4,9 +4,9 @@ use mathlib.Core.Path.{◌≡◌, subst}
 use Prim.Native.Nat.{ℕ, ◌-◌, ◌^◌, ◌≤◌}
 use borrow.Author.Rules.{rules}
 use native.Mathlib.Omega.{arith}
-use Rattle.digits.proofs.Powers.{power-fits, power-next}
+use Rattle.digits.proofs.Powers.{power_fits, power_next}
 use Rattle.stepping.specs.Containing.{DigitTable}
-use Rattle.stepping.proofs.ContainingLaws.{Tabled, tabled-none, tabled-more}
+use Rattle.stepping.proofs.ContainingLaws.{Tabled, tabled_none, tabled_more}
 use Rattle.stepping.proofs.contained.digit_table.Statement.{statement}
 use Rattle.stepping.proofs.contained.digit_table.Tie as tie
 
@@ -17,10 +17,10 @@ abbrev decreases-loop : tie.decreases-loop
 decreases-loop k base table₀ power₀ i₀ table power i = k - i
 
 loop-holds : tie.Need-loop-init invariant-loop decreases-loop
-loop-holds c = (omega arith, omega arith, tabled-none c.args.base)
+loop-holds c = (omega arith, omega arith, tabled_none c.args.base)
 
 digit-lanes-requires : tie.Need-digit-lanes-requires invariant-loop decreases-loop
-digit-lanes-requires c κs = power-fits c.before.loop.invariant.1 (omega arith)
+digit-lanes-requires c κs = power_fits c.before.loop.invariant.1 (omega arith)
 
 mul_at : tie.Need-overflow-mul-at invariant-loop decreases-loop
 mul_at c = search rules
@@ -44,7 +44,7 @@ array-write-table-2 : tie.Need-array-write-table-2 invariant-loop decreases-loop
 array-write-table-2 c = search rules
 
 mul_power : tie.Need-overflow-mul-power invariant-loop decreases-loop
-mul_power c = let h = power-fits c.before.before.loop.invariant.1 (omega arith) in omega arith
+mul_power c = let h = power_fits c.before.before.loop.invariant.1 (omega arith) in omega arith
 
 add-i : tie.Need-overflow-add-i invariant-loop decreases-loop
 add-i c = search rules
@@ -58,8 +58,8 @@ loop-again c =
     let loop = c.before.before.loop in
     let words = c.digit-lanes in (
       omega arith,
-      power-next loop.power loop.i loop.invariant.1,
-      tabled-more loop.i a.base loop.table (omega arith) loop.invariant.2 loop.invariant.1 words.result.assumed words.result.ruled
+      power_next loop.power loop.i loop.invariant.1,
+      tabled_more loop.i a.base loop.table (omega arith) loop.invariant.2 loop.invariant.1 words.result.assumed words.result.ruled
           words.ensures.0 words.ensures.1,
     )
 
@@ -70,8 +70,8 @@ returns c =
     let e : loop.i ≡ a.k = omega arith in
     subst (λ (n : ℕ). DigitTable n a.base loop.table) e loop.invariant.2.done
 
-pub digit-table-spec : {M : Type 1} → statement M
-digit-table-spec =
+pub digit_table_spec : {M : Type 1} → statement M
+digit_table_spec =
     tie.close
     (tie.spec
     invariant-loop

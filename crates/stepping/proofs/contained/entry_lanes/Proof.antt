@@ -3,7 +3,7 @@
 use Prim.Native.Nat.{◌-◌, ◌≤◌}
 use borrow.Author.Rules.{rules}
 use native.Mathlib.Omega.{arith}
-use Rattle.stepping.proofs.ContainingLaws.{EntryTo, entry-starts, entry_next, entry_zero, entry-none, entry-ends}
+use Rattle.stepping.proofs.ContainingLaws.{EntryTo, entry_starts, entry_next, entry_zero, entry_none, entry_ends}
 use Rattle.stepping.proofs.contained.entry_lanes.Statement.{statement}
 use Rattle.stepping.proofs.contained.entry_lanes.Tie as tie
 
@@ -14,13 +14,13 @@ abbrev decreases-loop : tie.decreases-loop
 decreases-loop k table entry lanes word₀ rest₀ i₀ word rest i = k - i
 
 loop-holds : tie.Need-loop-init invariant-loop decreases-loop
-loop-holds c = let a = c.args in (omega arith, entry-starts a.k a.table.now a.entry a.lanes)
+loop-holds c = let a = c.args in (omega arith, entry_starts a.k a.table.now a.entry a.lanes)
 
 returns : tie.Need-returns invariant-loop decreases-loop
 returns c = entry_zero _ _ _ _ _ _ _ c.before.before.loop.invariant.1 c.if1.true
 
 returns-2 : tie.Need-returns-2 invariant-loop decreases-loop
-returns-2 c = entry-none _ _ _ _ _ _ _ c.before.before.before.loop.invariant.1 c.if2.true
+returns-2 c = entry_none _ _ _ _ _ _ _ c.before.before.before.loop.invariant.1 c.if2.true
 
 cast-digit : tie.Need-overflow-cast-digit invariant-loop decreases-loop
 cast-digit c = search rules
@@ -49,10 +49,10 @@ loop-again c =
     (omega arith, entry_next _ _ _ _ _ _ _ in-loop.before.loop.invariant.1 in-loop.loop-test.true)
 
 returns-3 : tie.Need-returns-3 invariant-loop decreases-loop
-returns-3 c = entry-ends _ _ _ _ _ _ _ c.before.loop.invariant.1 c.loop-test.false
+returns-3 c = entry_ends _ _ _ _ _ _ _ c.before.loop.invariant.1 c.loop-test.false
 
-pub entry-lanes-spec : {M : Type 1} → statement M
-entry-lanes-spec =
+pub entry_lanes_spec : {M : Type 1} → statement M
+entry_lanes_spec =
     tie.close
     (tie.spec
     invariant-loop

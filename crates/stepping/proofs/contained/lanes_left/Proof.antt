@@ -3,7 +3,7 @@
 use Prim.Native.Nat.{◌-◌}
 use borrow.Author.Rules.{rules}
 use lib.ListN.{take, drop}
-use Rattle.stepping.proofs.ContainingLaws.{LeftTo, left-starts, left-next, left-none, left-ends}
+use Rattle.stepping.proofs.ContainingLaws.{LeftTo, left_starts, left_next, left_none, left_ends}
 use Rattle.stepping.proofs.contained.lanes_left.Statement.{statement}
 use Rattle.stepping.proofs.contained.lanes_left.Tie as tie
 
@@ -14,13 +14,13 @@ abbrev decreases-loop : tie.decreases-loop
 decreases-loop k list found table lanes left₀ i₀ left i = found - i
 
 loop-holds : tie.Need-loop-init invariant-loop decreases-loop
-loop-holds c = let a = c.before.args in left-starts a.k a.table.now a.found a.list.now a.lanes
+loop-holds c = let a = c.before.args in left_starts a.k a.table.now a.found a.list.now a.lanes
 
 returns : tie.Need-returns invariant-loop decreases-loop
 returns c =
     let loop = c.before.before in
     let a = loop.before.before.args in
-    left-none a.k a.table.now a.found a.list.now a.lanes loop.loop.i loop.loop.left loop.before.before.requires.1
+    left_none a.k a.table.now a.found a.list.now a.lanes loop.loop.i loop.loop.left loop.before.before.requires.1
     loop.loop.invariant c.if1.true
 
 mul-entry-lanes : tie.Need-overflow-mul-entry-lanes invariant-loop decreases-loop
@@ -44,18 +44,18 @@ loop-again c =
     let loop = in-loop.before in
     let start = loop.before.before in
     let a = start.args in
-    left-next a.k a.table.now a.found a.list.now a.lanes loop.loop.i loop.loop.left start.requires.1 loop.loop.invariant
+    left_next a.k a.table.now a.found a.list.now a.lanes loop.loop.i loop.loop.left start.requires.1 loop.loop.invariant
     in-loop.loop-test.true c.entry-lanes.result (search rules) c.entry-lanes.ensures
 
 returns-2 : tie.Need-returns-2 invariant-loop decreases-loop
 returns-2 c =
     let loop = c.before in
     let a = loop.before.before.args in
-    left-ends a.k a.table.now a.found a.list.now a.lanes loop.loop.i loop.loop.left loop.before.before.requires.1
+    left_ends a.k a.table.now a.found a.list.now a.lanes loop.loop.i loop.loop.left loop.before.before.requires.1
     loop.loop.invariant c.loop-test.false
 
-pub lanes-left-spec : {M : Type 1} → statement M
-lanes-left-spec =
+pub lanes_left_spec : {M : Type 1} → statement M
+lanes_left_spec =
     tie.close
     (tie.spec
     invariant-loop

@@ -4,13 +4,13 @@ use mathlib.Core.Path.{◌≡◌, sym, ◌∙◌}
 use Prim.Native.Nat.{◌-◌}
 use borrow.Author.Rules.{rules}
 use lib.ListN.{take, drop}
-use Rattle.steps.specs.Continuing.{containsOne}
-use Rattle.stepping.proofs.PartLoops.{contains-here, contains-next, contains-none}
+use Rattle.steps.specs.Continuing.{contains_one}
+use Rattle.stepping.proofs.PartLoops.{contains_here, contains_next, contains_none}
 use Rattle.stepping.proofs.digitwise.contains_one.Statement.{statement}
 use Rattle.stepping.proofs.digitwise.contains_one.Tie as tie
 
 abbrev invariant-loop : tie.invariant-loop
-invariant-loop k list first found s i₀ i = containsOne k (drop first (take found list)) s ≡ containsOne k (drop i (take found list)) s
+invariant-loop k list first found s i₀ i = contains_one k (drop first (take found list)) s ≡ contains_one k (drop i (take found list)) s
 
 abbrev decreases-loop : tie.decreases-loop
 decreases-loop k list first found s i₀ i = found - i
@@ -32,7 +32,7 @@ returns c =
     let in-loop = c.before.before.before in
     sym
     (in-loop.before.loop.invariant
-    ∙ contains-here _ _ _ in-loop.before.before.before.requires _ _ in-loop.loop-test.true (sym c.before.part_of.ensures ∙ c.if1.true))
+    ∙ contains_here _ _ _ in-loop.before.before.before.requires _ _ in-loop.loop-test.true (sym c.before.part_of.ensures ∙ c.if1.true))
 
 add-i : tie.Need-overflow-add-i invariant-loop decreases-loop
 add-i c = search rules
@@ -44,13 +44,13 @@ loop-again : tie.Need-loop-preserved invariant-loop decreases-loop
 loop-again c =
     let in-loop = c.before.before.before in
     in-loop.before.loop.invariant
-    ∙ contains-next _ _ _ in-loop.before.before.before.requires _ _ in-loop.loop-test.true (sym c.before.part_of.ensures ∙ c.if1.false)
+    ∙ contains_next _ _ _ in-loop.before.before.before.requires _ _ in-loop.loop-test.true (sym c.before.part_of.ensures ∙ c.if1.false)
 
 returns-2 : tie.Need-returns-2 invariant-loop decreases-loop
-returns-2 c = sym (c.before.loop.invariant ∙ contains-none _ _ _ c.before.before.before.requires _ _ c.loop-test.false)
+returns-2 c = sym (c.before.loop.invariant ∙ contains_none _ _ _ c.before.before.before.requires _ _ c.loop-test.false)
 
-pub contains-one-spec : {M : Type 1} → statement M
-contains-one-spec =
+pub contains_one_spec : {M : Type 1} → statement M
+contains_one_spec =
     tie.close
     (tie.spec
     invariant-loop

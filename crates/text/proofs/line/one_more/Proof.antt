@@ -19,5 +19,5 @@ returns-2 : tie.Need-returns-2
 unfolding few
 returns-2 c = rw (le-ltb (c.before.args.count + 1) 18 (omega arith))
 
-pub one-more-spec : {M : Type 1} → statement M
-one-more-spec = tie.close (tie.spec add-result returns returns-2)
+pub one_more_spec : {M : Type 1} → statement M
+one_more_spec = tie.close (tie.spec add-result returns returns-2)

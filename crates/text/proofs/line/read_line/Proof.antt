@@ -3,7 +3,7 @@
 use Prim.Native.Nat.{◌-◌}
 use native.Mathlib.Omega.{arith}
 use lib.ListN.{length}
-use Rattle.text.proofs.LineLaws.{token-value, Gone, gone-start, gone-stray, gone-over, gone-less, gone-on, gone-ends, gone-bars}
+use Rattle.text.proofs.LineLaws.{token_value, Gone, gone_start, gone_stray, gone_over, gone_less, gone_on, gone_ends, gone_bars}
 use borrow.Author.Rules.{rules}
 use Rattle.text.proofs.line.read_line.Statement.{statement}
 use Rattle.text.proofs.line.read_line.Tie as tie
@@ -24,7 +24,7 @@ module _ (c : tie.After-step invariant-loop decreases-loop) where
   head = read.before
 
 loop-holds : tie.Need-loop-init invariant-loop decreases-loop
-loop-holds c = gone-start c.before.requires
+loop-holds c = gone_start c.before.requires
 
 next-token-requires : tie.Need-next-token-requires invariant-loop decreases-loop
 next-token-requires c κs = c.loop.invariant.within
@@ -36,7 +36,7 @@ step-requires : tie.Need-step-requires invariant-loop decreases-loop
 step-requires c κs =
     let got = c.before.before.before in
     let at = got.before.loop in
-    token-value got.before.before.before.args.text.now at.at at.invariant.within got.next-token.ensures c.before.scanned.given.1
+    token_value got.before.before.before.args.text.now at.at at.invariant.within got.next-token.ensures c.before.scanned.given.1
 
 enum-known-moved : tie.Need-enum-known-moved invariant-loop decreases-loop
 enum-known-moved c = search rules
@@ -44,12 +44,12 @@ enum-known-moved c = search rules
 loop-again : tie.Need-loop-preserved invariant-loop decreases-loop
 loop-again c =
     let m = c.before.before.before in
-    gone-on (head m).loop.invariant (read m).next-token.ensures m.before.before.scanned.given.1 m.step.ensures c.before.moved.given.1
+    gone_on (head m).loop.invariant (read m).next-token.ensures m.before.before.scanned.given.1 m.step.ensures c.before.moved.given.1
 
 loop-less : tie.Need-loop-smaller invariant-loop decreases-loop
 loop-less c =
     let m = c.before.before.before in
-    let less = gone-less (head m).loop.invariant (read m).next-token.ensures m.before.before.scanned.given.1 m.step.ensures in
+    let less = gone_less (head m).loop.invariant (read m).next-token.ensures m.before.before.scanned.given.1 m.step.ensures in
     omega (arith, less, (loop-again c).within)
 
 enum-known-moved-2 : tie.Need-enum-known-moved-2 invariant-loop decreases-loop
@@ -58,7 +58,7 @@ enum-known-moved-2 c = search rules
 returns : tie.Need-returns invariant-loop decreases-loop
 returns c =
     let m = c.before.before.before in
-    gone-ends (head m).loop.invariant (read m).next-token.ensures m.before.before.scanned.given.1 m.step.ensures c.before.moved2.given.1
+    gone_ends (head m).loop.invariant (read m).next-token.ensures m.before.before.scanned.given.1 m.step.ensures c.before.moved2.given.1
 
 enum_told : tie.Need-enum-told invariant-loop decreases-loop
 enum_told c = search rules
@@ -66,7 +66,7 @@ enum_told c = search rules
 returns-2 : tie.Need-returns-2 invariant-loop decreases-loop
 returns-2 c =
     let m = c.before.before in
-    gone-bars (head m).loop.invariant (read m).next-token.ensures m.before.before.scanned.given.1 m.step.ensures c.enum_told.given.1
+    gone_bars (head m).loop.invariant (read m).next-token.ensures m.before.before.scanned.given.1 m.step.ensures c.enum_told.given.1
 
 enum-known-scanned-2 : tie.Need-enum-known-scanned-2 invariant-loop decreases-loop
 enum-known-scanned-2 c = search rules
@@ -74,7 +74,7 @@ enum-known-scanned-2 c = search rules
 returns-3 : tie.Need-returns-3 invariant-loop decreases-loop
 returns-3 c =
     let got = c.before.before.before in
-    gone-stray got.before.loop.invariant got.next-token.ensures c.before.scanned2.given.1
+    gone_stray got.before.loop.invariant got.next-token.ensures c.before.scanned2.given.1
 
 enum-known-scanned-3 : tie.Need-enum-known-scanned-3 invariant-loop decreases-loop
 enum-known-scanned-3 c = search rules
@@ -85,10 +85,10 @@ ended-requires c κs = search rules
 returns-4 : tie.Need-returns-4 invariant-loop decreases-loop
 returns-4 c =
     let got = c.before.before.before.before in
-    gone-over got.before.loop.invariant got.next-token.ensures c.before.before.scanned3.given.1 c.ended.ensures
+    gone_over got.before.loop.invariant got.next-token.ensures c.before.before.scanned3.given.1 c.ended.ensures
 
-pub read-line-spec : {M : Type 1} → statement M
-read-line-spec =
+pub read_line_spec : {M : Type 1} → statement M
+read_line_spec =
     tie.close
     (tie.spec
     invariant-loop

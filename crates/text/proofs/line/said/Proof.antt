@@ -14,5 +14,5 @@ returns c = rw (eq-eqb _ 0x70 c.before.if1.true, c.also.ensures)
 returns-2 : tie.Need-returns-2
 returns-2 c = rw (ne_eqb _ 0x70 c.if1.false)
 
-pub said-spec : {M : Type 1} → statement M
-said-spec = tie.close (tie.spec also-requires returns returns-2)
+pub said_spec : {M : Type 1} → statement M
+said_spec = tie.close (tie.spec also-requires returns returns-2)

@@ -1,6 +1,6 @@
 -- `text::line::step` meets its contract.
 -- Assumes nothing.
-use Rattle.text.specs.Briefly.{stepBriefly}
+use Rattle.text.specs.Briefly.{step_briefly}
 use borrow.Author.Rules.{rules}
 use Rattle.text.proofs.line.step.Statement.{statement}
 use Rattle.text.proofs.line.step.Tie as tie
@@ -66,43 +66,43 @@ parted-requires : tie.Need-parted-requires
 parted-requires c κs = search rules
 
 returns : tie.Need-returns
-unfolding stepBriefly
+unfolding step_briefly
 returns c = rw (c.before.enum_told.given.1, c.begun.ensures)
 
 returns-2 : tie.Need-returns-2
-unfolding stepBriefly
+unfolding step_briefly
 returns-2 c = rw (c.before.before.stage.given.1, c.declared.ensures)
 
 returns-3 : tie.Need-returns-3
-unfolding stepBriefly
+unfolding step_briefly
 returns-3 c = rw (c.before.before.stage2.given.1, c.stopped.ensures)
 
 returns-4 : tie.Need-returns-4
-unfolding stepBriefly
+unfolding step_briefly
 returns-4 c = rw (c.before.before.stage3.given.1, c.headed.ensures)
 
 returns-5 : tie.Need-returns-5
-unfolding stepBriefly
+unfolding step_briefly
 returns-5 c = rw (c.before.before.stage4.given.1, c.closed.ensures)
 
 returns-6 : tie.Need-returns-6
-unfolding stepBriefly
+unfolding step_briefly
 returns-6 c = rw (c.before.before.stage5.given.1, c.due.ensures)
 
 returns-7 : tie.Need-returns-7
-unfolding stepBriefly
+unfolding step_briefly
 returns-7 c = rw (c.before.before.stage6.given.1, c.denied.ensures)
 
 returns-8 : tie.Need-returns-8
-unfolding stepBriefly
+unfolding step_briefly
 returns-8 c = rw (c.before.before.stage7.given.1, c.said.ensures)
 
 returns-9 : tie.Need-returns-9
-unfolding stepBriefly
+unfolding step_briefly
 returns-9 c = rw (c.before.before.stage8.given.1, c.said2.ensures)
 
 returns-10 : tie.Need-returns-10
-unfolding stepBriefly
+unfolding step_briefly
 returns-10 c = rw (c.before.before.stage9.given.1, c.parted.ensures)
 
 pub step_spec : {M : Type 1} → statement M

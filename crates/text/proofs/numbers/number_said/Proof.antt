@@ -1,7 +1,7 @@
 -- `text::numbers::number_said` meets its contract.
 -- Assumes nothing.
 use native.Mathlib.Omega.{arith}
-use Rattle.text.specs.LineNumbers.{numberSaid}
+use Rattle.text.specs.LineNumbers.{number_said}
 use borrow.Author.Rules.{rules}
 use Rattle.text.proofs.numbers.number_said.Statement.{statement}
 use Rattle.text.proofs.numbers.number_said.Tie as tie
@@ -67,47 +67,47 @@ enum-told-10 : tie.Need-enum-told-10
 enum-told-10 c = search rules
 
 returns : tie.Need-returns
-unfolding numberSaid
+unfolding number_said
 returns c = (rw c.enum_told.given.1, omega arith)
 
 returns-2 : tie.Need-returns-2
-unfolding numberSaid
+unfolding number_said
 returns-2 c = (rw c.enum-told2.given.1, omega arith)
 
 returns-3 : tie.Need-returns-3
-unfolding numberSaid
+unfolding number_said
 returns-3 c = (rw c.enum-told3.given.1, omega arith)
 
 returns-4 : tie.Need-returns-4
-unfolding numberSaid
+unfolding number_said
 returns-4 c = (rw c.enum-told4.given.1, omega arith)
 
 returns-5 : tie.Need-returns-5
-unfolding numberSaid
+unfolding number_said
 returns-5 c = (rw c.enum-told5.given.1, omega arith)
 
 returns-6 : tie.Need-returns-6
-unfolding numberSaid
+unfolding number_said
 returns-6 c = (rw c.enum-told6.given.1, omega arith)
 
 returns-7 : tie.Need-returns-7
-unfolding numberSaid
+unfolding number_said
 returns-7 c = (rw c.enum-told7.given.1, omega arith)
 
 returns-8 : tie.Need-returns-8
-unfolding numberSaid
+unfolding number_said
 returns-8 c = (rw c.enum-told8.given.1, omega arith)
 
 returns-9 : tie.Need-returns-9
-unfolding numberSaid
+unfolding number_said
 returns-9 c = (rw c.enum-told9.given.1, omega arith)
 
 returns-10 : tie.Need-returns-10
-unfolding numberSaid
+unfolding number_said
 returns-10 c = (rw c.enum-told10.given.1, omega arith)
 
-pub number-said-spec : {M : Type 1} → statement M
-number-said-spec =
+pub number_said_spec : {M : Type 1} → statement M
+number_said_spec =
     tie.close
     (tie.spec
     enum_told

@@ -6,9 +6,9 @@ use native.Mathlib.Omega.{arith}
 use borrow.Author.Rules.{rules}
 use lib.ListN.{length}
 use Rattle.text.specs.LineNumbers.{padded}
-use Rattle.text.proofs.LineLaws.{token-value}
-use Rattle.text.proofs.Gathering.{padded-length, numbersIn}
-use Rattle.text.proofs.GatheredLines.{Gathered, gathered-start, gathered_none, gathered-less, gathered-on, gathered-done}
+use Rattle.text.proofs.LineLaws.{token_value}
+use Rattle.text.proofs.Gathering.{padded_length, numbers_in}
+use Rattle.text.proofs.GatheredLines.{Gathered, gathered_start, gathered_none, gathered_less, gathered_on, gathered_done}
 use Rattle.text.proofs.numbers.numbers_in.Statement.{statement}
 use Rattle.text.proofs.numbers.numbers_in.Tie as tie
 
@@ -46,7 +46,7 @@ module _ (c : tie.After-place-said invariant-loop decreases-loop) where
   stepped = moved.before.before
 
 loop-holds : tie.Need-loop-init invariant-loop decreases-loop
-loop-holds c = gathered-start c.before.requires (unfold padded in refl)
+loop-holds c = gathered_start c.before.requires (unfold padded in refl)
 
 next-token-requires : tie.Need-next-token-requires invariant-loop decreases-loop
 next-token-requires c κs = c.loop.invariant.within
@@ -61,7 +61,7 @@ step-requires : tie.Need-step-requires invariant-loop decreases-loop
 step-requires c κs =
     let seen = c.before.before.before in
     let at = (here seen).loop in
-    token-value (start seen).args.text.now at.at at.inv.within seen.next-token.ensures c.before.scanned.given.1
+    token_value (start seen).args.text.now at.at at.inv.within seen.next-token.ensures c.before.scanned.given.1
 
 enum-known-moved : tie.Need-enum-known-moved invariant-loop decreases-loop
 enum-known-moved c = search rules
@@ -69,7 +69,7 @@ enum-known-moved c = search rules
 returns-2 : tie.Need-returns-2 invariant-loop decreases-loop
 returns-2 c =
     let done = c.before in
-    gathered-done (here (read done)).loop.inv (read done).next-token.ensures (token done).scanned.given.1 done.step.ensures c.match2.keys2
+    gathered_done (here (read done)).loop.inv (read done).next-token.ensures (token done).scanned.given.1 done.step.ensures c.match2.keys2
 
 place-said-requires : tie.Need-place-said-requires invariant-loop decreases-loop
 place-said-requires c κs = search rules
@@ -79,12 +79,12 @@ number-said-requires c κs =
     let done = stepped c in
     let seen = read done in
     let at = (here seen).loop in
-    token-value (start seen).args.text.now at.at at.inv.within seen.next-token.ensures (token done).scanned.given.1
+    token_value (start seen).args.text.now at.at at.inv.within seen.next-token.ensures (token done).scanned.given.1
 
 slice-aggregate-put : tie.Need-slice-aggregate-put invariant-loop decreases-loop
 slice-aggregate-put c =
     let g = (here (read (stepped c.before.before))).loop.inv in
-    sym (ap length g.held ∙ padded-length 17 (numbersIn g.state))
+    sym (ap length g.held ∙ padded_length 17 (numbers_in g.state))
 
 cast-put : tie.Need-overflow-cast-put invariant-loop decreases-loop
 cast-put c = search rules
@@ -108,17 +108,17 @@ loop-again : tie.Need-loop-preserved invariant-loop decreases-loop
 loop-again c =
     let put = c.before in
     let done = step put in
-    gathered-on (here (read done)).loop.inv (read done).next-token.ensures (token done).scanned.given.1 done.step.ensures
+    gathered_on (here (read done)).loop.inv (read done).next-token.ensures (token done).scanned.given.1 done.step.ensures
     (moved (place put)).moved.given.1 (place put).place-said.ensures (number put).number-said.ensures.0 put.put.ensures
 
 loop-less : tie.Need-loop-smaller invariant-loop decreases-loop
 loop-less c =
     let done = step c.before in
-    let less = gathered-less (here (read done)).loop.inv (read done).next-token.ensures (token done).scanned.given.1 done.step.ensures in
+    let less = gathered_less (here (read done)).loop.inv (read done).next-token.ensures (token done).scanned.given.1 done.step.ensures in
     omega (arith, less, (loop-again c).within)
 
-pub numbers-in-spec : {M : Type 1} → statement M
-numbers-in-spec =
+pub numbers_in_spec : {M : Type 1} → statement M
+numbers_in_spec =
     tie.close
     (tie.spec
     invariant-loop

@@ -4,7 +4,7 @@ use mathlib.Core.Path.{◌≡◌}
 use mathlib.Core.Bool.{true}
 use borrow.Author.Tests.{eq-eqb, ne_eqb}
 use lib.Dec.{eqb}
-use Rattle.text.specs.LineNumbers.{placeSaid}
+use Rattle.text.specs.LineNumbers.{place_said}
 use borrow.Author.Rules.{rules}
 use Rattle.text.proofs.numbers.place_said.Statement.{statement}
 use Rattle.text.proofs.numbers.place_said.Tie as tie
@@ -13,7 +13,7 @@ atom : (c : tie.Else1) → eqb c.before.args.kind 0x70 ≡ true
 atom c = eq-eqb c.before.args.kind 0x70 c.if1.false
 
 returns : tie.Need-returns
-unfolding placeSaid
+unfolding place_said
 returns c = rw (ne_eqb c.before.args.kind 0x70 c.if1.true)
 
 enum_told : tie.Need-enum-told
@@ -47,47 +47,47 @@ enum-told-6 : tie.Need-enum-told-6
 enum-told-6 c = search rules
 
 returns-2 : tie.Need-returns-2
-unfolding placeSaid
+unfolding place_said
 returns-2 c = rw (atom c.before.before, c.enum_told.given.1)
 
 returns-3 : tie.Need-returns-3
-unfolding placeSaid
+unfolding place_said
 returns-3 c = rw (atom c.before.before, c.enum-told2.given.1)
 
 returns-4 : tie.Need-returns-4
-unfolding placeSaid
+unfolding place_said
 returns-4 c = rw (atom c.before.before, c.enum-told3.given.1)
 
 returns-5 : tie.Need-returns-5
-unfolding placeSaid
+unfolding place_said
 returns-5 c = rw (atom c.before.before, c.enum-told4.given.1)
 
 returns-6 : tie.Need-returns-6
-unfolding placeSaid
+unfolding place_said
 returns-6 c = rw (atom c.before.before, c.enum-told5.given.1)
 
 returns-7 : tie.Need-returns-7
-unfolding placeSaid
+unfolding place_said
 returns-7 c = rw (atom c.before.before.before, c.before.stage.given.1)
 
 returns-8 : tie.Need-returns-8
-unfolding placeSaid
+unfolding place_said
 returns-8 c = rw (atom c.before.before.before, c.before.stage2.given.1)
 
 returns-9 : tie.Need-returns-9
-unfolding placeSaid
+unfolding place_said
 returns-9 c = rw (atom c.before.before.before, c.before.stage3.given.1)
 
 returns-10 : tie.Need-returns-10
-unfolding placeSaid
+unfolding place_said
 returns-10 c = rw (atom c.before.before.before, c.before.stage4.given.1)
 
 returns-11 : tie.Need-returns-11
-unfolding placeSaid
+unfolding place_said
 returns-11 c = rw (atom c.before.before, c.enum-told6.given.1)
 
-pub place-said-spec : {M : Type 1} → statement M
-place-said-spec =
+pub place_said_spec : {M : Type 1} → statement M
+place_said_spec =
     tie.close
     (tie.spec
     returns

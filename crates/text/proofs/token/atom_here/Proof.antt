@@ -2,7 +2,7 @@
 -- Assumes nothing.
 use mathlib.Core.Path.{refl}
 use borrow.Author.Rules.{rules}
-use Rattle.text.proofs.TokenLaws.{no_digit, one-digit, zero-first, two_digits, four-digits, too_large, three-digits}
+use Rattle.text.proofs.TokenLaws.{no_digit, one_digit, zero_first, two_digits, four_digits, too_large, three_digits}
 use Rattle.text.proofs.token.atom_here.Statement.{statement}
 use Rattle.text.proofs.token.atom_here.Tie as tie
 
@@ -64,14 +64,14 @@ returns-2 : tie.Need-returns-2
 returns-2 c =
     let d2 = c.before in
     let d1 = first d2 in
-    one-digit _ _ (start d1).pre.1 d1.digit_at.ensures.0 (one d2).if1.false d2.digit-at2.ensures.0 c.if2.true
+    one_digit _ _ (start d1).pre.1 d1.digit_at.ensures.0 (one d2).if1.false d2.digit-at2.ensures.0 c.if2.true
 
 returns-3 : tie.Need-returns-3
 returns-3 c =
     let two = c.before in
     let d2 = two.before in
     let d1 = first d2 in
-    zero-first _ _ (start d1).pre.1 d1.digit_at.ensures.0 (one d2).if1.false d2.digit-at2.ensures.0 two.if2.false c.if3.true
+    zero_first _ _ (start d1).pre.1 d1.digit_at.ensures.0 (one d2).if1.false d2.digit-at2.ensures.0 two.if2.false c.if3.true
 
 add-digit-at-3 : tie.Need-overflow-add-digit-at-3
 add-digit-at-3 c = search rules
@@ -108,7 +108,7 @@ returns-5 c =
     let d3 = third d4 in
     let d2 = second d3 in
     let d1 = first d2 in
-    four-digits _ _ (start d1).pre.1 d1.digit_at.ensures.0 (one d2).if1.left d2.digit-at2.ensures.0 (two d3).if2.left
+    four_digits _ _ (start d1).pre.1 d1.digit_at.ensures.0 (one d2).if1.left d2.digit-at2.ensures.0 (two d3).if2.left
     (positive d3).if3.left d3.digit-at3.ensures.0 (three d4).if4.false d4.digit-at4.ensures.0 c.if5.true
 
 mul-value : tie.Need-overflow-mul-value
@@ -141,11 +141,11 @@ returns-7 c =
     let d3 = third d4 in
     let d2 = second d3 in
     let d1 = first d2 in
-    three-digits _ _ (start d1).pre.1 d1.digit_at.ensures.0 (one d2).if1.left d2.digit-at2.ensures.0 (two d3).if2.left
+    three_digits _ _ (start d1).pre.1 d1.digit_at.ensures.0 (one d2).if1.left d2.digit-at2.ensures.0 (two d3).if2.left
     (positive d3).if3.left d3.digit-at3.ensures.0 (three d4).if4.false d4.digit-at4.ensures.0 c.before.if5.false refl c.if6.false
 
-pub atom-here-spec : {M : Type 1} → statement M
-atom-here-spec =
+pub atom_here_spec : {M : Type 1} → statement M
+atom_here_spec =
     tie.close
     (tie.spec
     add-digit-at

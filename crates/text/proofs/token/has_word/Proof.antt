@@ -6,7 +6,7 @@ use native.Mathlib.Omega.{arith}
 use borrow.Author.Rules.{rules}
 use lib.ListN.{length, drop}
 use Rattle.text.specs.Tokens.{begins}
-use Rattle.text.proofs.TokenLaws.{begins-done, begins-past, begins-other, begins-next}
+use Rattle.text.proofs.TokenLaws.{begins_done, begins_past, begins_other, begins_next}
 use Rattle.text.proofs.token.has_word.Statement.{statement}
 use Rattle.text.proofs.token.has_word.Tie as tie
 
@@ -27,7 +27,7 @@ returns c =
     let turn = c.before in
     let here = turn.before in
     let a = here.before.args in
-    sym (here.loop.invariant.1 ∙ begins-past a.text.now a.word.now a.at here.loop.i turn.loop-test.true (omega arith))
+    sym (here.loop.invariant.1 ∙ begins_past a.text.now a.word.now a.at here.loop.i turn.loop-test.true (omega arith))
 
 add-if2 : tie.Need-overflow-add-if2 invariant-loop decreases-loop
 add-if2 c = search rules
@@ -45,7 +45,7 @@ returns-2 c =
     let a = here.before.args in
     sym
     (here.loop.invariant.1
-    ∙ begins-other a.text.now a.word.now a.at here.loop.i turn.loop-test.true (omega arith) c.if2.true)
+    ∙ begins_other a.text.now a.word.now a.at here.loop.i turn.loop-test.true (omega arith) c.if2.true)
 
 add-i : tie.Need-overflow-add-i invariant-loop decreases-loop
 add-i c = search rules
@@ -60,17 +60,17 @@ loop-again c =
     let a = here.before.args in (
       omega arith,
       here.loop.invariant.1
-          ∙ begins-next a.text.now a.word.now a.at here.loop.i turn.loop-test.true (omega arith) c.if2.false,
+          ∙ begins_next a.text.now a.word.now a.at here.loop.i turn.loop-test.true (omega arith) c.if2.false,
     )
 
 returns-3 : tie.Need-returns-3 invariant-loop decreases-loop
 returns-3 c =
     let here = c.before in
     let a = here.before.args in
-    sym (here.loop.invariant.1 ∙ begins-done a.text.now a.word.now a.at here.loop.i c.loop-test.false)
+    sym (here.loop.invariant.1 ∙ begins_done a.text.now a.word.now a.at here.loop.i c.loop-test.false)
 
-pub has-word-spec : {M : Type 1} → statement M
-has-word-spec =
+pub has_word_spec : {M : Type 1} → statement M
+has_word_spec =
     tie.close
     (tie.spec
     invariant-loop

@@ -6,13 +6,13 @@ use native.Mathlib.Omega.{arith}
 use borrow.Author.Rules.{rules}
 use borrow.Author.Tests.{not-true, not-false}
 use lib.ListN.{length, drop}
-use Rattle.text.specs.Tokens.{nextToken}
-use Rattle.text.proofs.TokenLaws.{next-end, next-blank, next_here}
+use Rattle.text.specs.Tokens.{next_token}
+use Rattle.text.proofs.TokenLaws.{next_end, next_blank, next_here}
 use Rattle.text.proofs.token.next_token.Statement.{statement}
 use Rattle.text.proofs.token.next_token.Tie as tie
 
 abbrev invariant-loop : tie.invariant-loop
-invariant-loop text from at₀ at = (at ≤ length text) × (nextToken from (drop from text) ≡ nextToken at (drop at text))
+invariant-loop text from at₀ at = (at ≤ length text) × (next_token from (drop from text) ≡ next_token at (drop at text))
 
 abbrev decreases-loop : tie.decreases-loop
 decreases-loop text from at₀ at = length text - at
@@ -51,16 +51,16 @@ loop-again c =
     let here = turn.before in
     let t = here.before.before.args.text.now in
     let blank = sym tested.is-blank.ensures ∙ not-false _ c.if1.false in
-    (omega arith, here.loop.invariant.1 ∙ next-blank t here.loop.at turn.loop-test.true blank)
+    (omega arith, here.loop.invariant.1 ∙ next_blank t here.loop.at turn.loop-test.true blank)
 
 returns-2 : tie.Need-returns-2 invariant-loop decreases-loop
 returns-2 c =
     let here = c.before in
     let t = here.before.before.args.text.now in
-    sym (here.loop.invariant.1 ∙ next-end t here.loop.at c.loop-test.false)
+    sym (here.loop.invariant.1 ∙ next_end t here.loop.at c.loop-test.false)
 
-pub next-token-spec : {M : Type 1} → statement M
-next-token-spec =
+pub next_token_spec : {M : Type 1} → statement M
+next_token_spec =
     tie.close
     (tie.spec
     invariant-loop

@@ -4,7 +4,7 @@ use mathlib.Core.Path.{refl}
 use borrow.Author.Rules.{rules}
 use lib.ListN.{drop, length-drop}
 use Rattle.text.specs.Tokens.{words}
-use Rattle.text.proofs.TokenLaws.{words_size, word-stray, word-token}
+use Rattle.text.proofs.TokenLaws.{words_size, word_stray, word_token}
 use Rattle.text.proofs.token.token_here.Statement.{statement}
 use Rattle.text.proofs.token.token_here.Tie as tie
 
@@ -33,7 +33,7 @@ returns-2 : tie.Need-returns-2
 returns-2 c =
     let sized = c.before in
     let s = start sized in
-    word-stray s.args.text.now s.args.at s.pre refl (word sized).if1.false sized.word-size.ensures c.if2.true
+    word_stray s.args.text.now s.args.at s.pre refl (word sized).if1.false sized.word_size_lem.ensures c.if2.true
 
 add-t8 : tie.Need-overflow-add-t8
 add-t8 c =
@@ -42,7 +42,7 @@ add-t8 c =
     let t = s.args.text.now in
     let size = words_size words (drop s.args.at t) in
     let left = length-drop s.args.at t in
-    let is = sized.word-size.ensures in
+    let is = sized.word_size_lem.ensures in
     let p = s.pre in
     search rules
 
@@ -50,10 +50,10 @@ returns-3 : tie.Need-returns-3
 returns-3 c =
     let sized = c.before in
     let s = start sized in
-    word-token s.args.text.now s.args.at s.pre refl (word sized).if1.false sized.word-size.ensures c.if2.false
+    word_token s.args.text.now s.args.at s.pre refl (word sized).if1.false sized.word_size_lem.ensures c.if2.false
 
-pub token-here-spec : {M : Type 1} → statement M
-token-here-spec =
+pub token_here_spec : {M : Type 1} → statement M
+token_here_spec =
     tie.close
     (tie.spec
     shared-slice-read-kind

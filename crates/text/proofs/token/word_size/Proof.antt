@@ -21,57 +21,57 @@ module _ (c : tie.Else1) where
   abbrev start-1 : tie.Start
   start-1 = c.before.before.before.before
 
-  missed-1 : Missed 1 start-1
+  missed_1 : Missed 1 start-1
   unfolding words
-  missed-1 = miss _ _ _ c.before.Has-word.ensures c.if1.false
+  missed_1 = miss _ _ _ c.before.Has-word.ensures c.if1.false
 
 module _ (c : tie.Else2) where
   abbrev start-2 : tie.Start
   start-2 = start-1 c.before.before.before
 
-  missed-2 : Missed 2 start-2
+  missed_2 : Missed 2 start-2
   unfolding words
-  missed-2 = missed-1 c.before.before.before ∙ miss _ _ _ c.before.has-word2.ensures c.if2.false
+  missed_2 = missed_1 c.before.before.before ∙ miss _ _ _ c.before.has-word2.ensures c.if2.false
 
 module _ (c : tie.Else3) where
   abbrev start-3 : tie.Start
   start-3 = start-2 c.before.before.before
 
-  missed-3 : Missed 3 start-3
+  missed_3 : Missed 3 start-3
   unfolding words
-  missed-3 = missed-2 c.before.before.before ∙ miss _ _ _ c.before.has-word3.ensures c.if3.false
+  missed_3 = missed_2 c.before.before.before ∙ miss _ _ _ c.before.has-word3.ensures c.if3.false
 
 module _ (c : tie.Else4) where
   abbrev start-4 : tie.Start
   start-4 = start-3 c.before.before.before
 
-  missed-4 : Missed 4 start-4
+  missed_4 : Missed 4 start-4
   unfolding words
-  missed-4 = missed-3 c.before.before.before ∙ miss _ _ _ c.before.has-word4.ensures c.if4.false
+  missed_4 = missed_3 c.before.before.before ∙ miss _ _ _ c.before.has-word4.ensures c.if4.false
 
 module _ (c : tie.Else5) where
   abbrev start-5 : tie.Start
   start-5 = start-4 c.before.before.before
 
-  missed-5 : Missed 5 start-5
+  missed_5 : Missed 5 start-5
   unfolding words
-  missed-5 = missed-4 c.before.before.before ∙ miss _ _ _ c.before.has-word5.ensures c.if5.false
+  missed_5 = missed_4 c.before.before.before ∙ miss _ _ _ c.before.has-word5.ensures c.if5.false
 
 module _ (c : tie.Else6) where
   abbrev start-6 : tie.Start
   start-6 = start-5 c.before.before.before
 
-  missed-6 : Missed 6 start-6
+  missed_6 : Missed 6 start-6
   unfolding words
-  missed-6 = missed-5 c.before.before.before ∙ miss _ _ _ c.before.has-word6.ensures c.if6.false
+  missed_6 = missed_5 c.before.before.before ∙ miss _ _ _ c.before.has-word6.ensures c.if6.false
 
 module _ (c : tie.Else7) where
   abbrev start-7 : tie.Start
   start-7 = start-6 c.before.before.before
 
-  missed-7 : Missed 7 start-7
+  missed_7 : Missed 7 start-7
   unfolding words
-  missed-7 = missed-6 c.before.before.before ∙ miss _ _ _ c.before.has-word7.ensures c.if7.false
+  missed_7 = missed_6 c.before.before.before ∙ miss _ _ _ c.before.has-word7.ensures c.if7.false
 
 slice-aggregate-has-word : tie.Need-slice-aggregate-has-word
 slice-aggregate-has-word c = search rules
@@ -91,7 +91,7 @@ has-word-requires-2 c κs = search rules
 
 returns-2 : tie.Need-returns-2
 unfolding words
-returns-2 c = sym (missed-1 c.before.before.before ∙ hit _ _ _ c.before.has-word2.ensures c.if2.true)
+returns-2 c = sym (missed_1 c.before.before.before ∙ hit _ _ _ c.before.has-word2.ensures c.if2.true)
 
 slice-aggregate-has-word-3 : tie.Need-slice-aggregate-has-word-3
 slice-aggregate-has-word-3 c = search rules
@@ -101,7 +101,7 @@ has-word-requires-3 c κs = search rules
 
 returns-3 : tie.Need-returns-3
 unfolding words
-returns-3 c = sym (missed-2 c.before.before.before ∙ hit _ _ _ c.before.has-word3.ensures c.if3.true)
+returns-3 c = sym (missed_2 c.before.before.before ∙ hit _ _ _ c.before.has-word3.ensures c.if3.true)
 
 slice-aggregate-has-word-4 : tie.Need-slice-aggregate-has-word-4
 slice-aggregate-has-word-4 c = search rules
@@ -111,7 +111,7 @@ has-word-requires-4 c κs = search rules
 
 returns-4 : tie.Need-returns-4
 unfolding words
-returns-4 c = sym (missed-3 c.before.before.before ∙ hit _ _ _ c.before.has-word4.ensures c.if4.true)
+returns-4 c = sym (missed_3 c.before.before.before ∙ hit _ _ _ c.before.has-word4.ensures c.if4.true)
 
 slice-aggregate-has-word-5 : tie.Need-slice-aggregate-has-word-5
 slice-aggregate-has-word-5 c = search rules
@@ -121,7 +121,7 @@ has-word-requires-5 c κs = search rules
 
 returns-5 : tie.Need-returns-5
 unfolding words
-returns-5 c = sym (missed-4 c.before.before.before ∙ hit _ _ _ c.before.has-word5.ensures c.if5.true)
+returns-5 c = sym (missed_4 c.before.before.before ∙ hit _ _ _ c.before.has-word5.ensures c.if5.true)
 
 slice-aggregate-has-word-6 : tie.Need-slice-aggregate-has-word-6
 slice-aggregate-has-word-6 c = search rules
@@ -131,7 +131,7 @@ has-word-requires-6 c κs = search rules
 
 returns-6 : tie.Need-returns-6
 unfolding words
-returns-6 c = sym (missed-5 c.before.before.before ∙ hit _ _ _ c.before.has-word6.ensures c.if6.true)
+returns-6 c = sym (missed_5 c.before.before.before ∙ hit _ _ _ c.before.has-word6.ensures c.if6.true)
 
 slice-aggregate-has-word-7 : tie.Need-slice-aggregate-has-word-7
 slice-aggregate-has-word-7 c = search rules
@@ -141,14 +141,14 @@ has-word-requires-7 c κs = search rules
 
 returns-7 : tie.Need-returns-7
 unfolding words
-returns-7 c = sym (missed-6 c.before.before.before ∙ hit _ _ _ c.before.has-word7.ensures c.if7.true)
+returns-7 c = sym (missed_6 c.before.before.before ∙ hit _ _ _ c.before.has-word7.ensures c.if7.true)
 
 returns-8 : tie.Need-returns-8
 unfolding words word_size
-returns-8 c = sym (missed-7 c)
+returns-8 c = sym (missed_7 c)
 
-pub word-size-spec : {M : Type 1} → statement M
-word-size-spec =
+pub word_size_spec : {M : Type 1} → statement M
+word_size_spec =
     tie.close
     (tie.spec
     slice-aggregate-has-word

@@ -4,7 +4,7 @@ use borrow.Author.Rules.{rules}
 use Prim.Native.Nat.{◌-◌, ◌≤◌}
 use mathlib.Core.Path.{◌≡◌, subst}
 use native.Mathlib.Omega.{arith}
-use Rattle.valuation.proofs.ValueLaws.{Valued, valued-none, valued-more, valued-all}
+use Rattle.valuation.proofs.ValueLaws.{Valued, valued_none, valued_more, valued_all}
 use Rattle.valuation.proofs.values.write_values.Statement.{statement}
 use Rattle.valuation.proofs.values.write_values.Tie as tie
 
@@ -15,7 +15,7 @@ abbrev decreases-loop : tie.decreases-loop
 decreases-loop model₀ trues falses count o₀ model o = count - o
 
 loop-holds : tie.Need-loop-init invariant-loop decreases-loop
-loop-holds c = let a = c.before.args in (omega arith, valued-none a.trues.now a.falses.now a.model.now)
+loop-holds c = let a = c.before.args in (omega arith, valued_none a.trues.now a.falses.now a.model.now)
 
 mul-held : tie.Need-overflow-mul-held invariant-loop decreases-loop
 mul-held c = search rules
@@ -46,7 +46,7 @@ loop-again c =
     let a = c.before.before.before.before.before.before.args in
     let l = c.before.before.before.before.loop in
     let byte = c.value-byte in
-    (omega arith, valued-more a.trues.now a.falses.now a.model.now l.o l.model byte.result (omega arith) l.invariant.1 byte.ensures)
+    (omega arith, valued_more a.trues.now a.falses.now a.model.now l.o l.model byte.result (omega arith) l.invariant.1 byte.ensures)
 
 same_length : tie.Need-same-length invariant-loop decreases-loop
 same_length c = c.before.loop.invariant.1.long
@@ -56,11 +56,11 @@ returns c =
     let a = c.before.before.before.args in
     let l = c.before.loop in
     let e : l.o ≡ a.count = omega arith in
-    valued-all a.trues.now a.falses.now a.model.now a.count l.model c.before.before.before.requires.1
+    valued_all a.trues.now a.falses.now a.model.now a.count l.model c.before.before.before.requires.1
     (subst (λ x. Valued a.trues.now a.falses.now a.model.now x l.model) e l.invariant.1)
 
-pub write-values-spec : {M : Type 1} → statement M
-write-values-spec =
+pub write_values_spec : {M : Type 1} → statement M
+write_values_spec =
     tie.close
     (tie.spec
     invariant-loop
