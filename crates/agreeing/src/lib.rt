@@ -1,4 +1,6 @@
 // Which of 64 scenarios that follow one another agree with the held faults: a lane for each scenario, base + l in lane l.
+#![tactic(auto)]
+
 pub mod runs;
 
 ghost use Rattle.std.specs.Prelude.{◌≡◌, cond, ◌≤◌, ◌<◌, eqb};

@@ -1,4 +1,6 @@
 // Numbers of 16 bits in arrays of which nothing is known: what lies past the end of one is answered, too.
+#![tactic(auto)]
+
 ghost use Rattle.std.specs.Prelude.{◌≡◌, ◌<◌, get_or, set};
 
 // A number with its bound, for callers.

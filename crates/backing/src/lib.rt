@@ -1,5 +1,7 @@
 // What backs a false literal besides its rules, in 64 scenarios: its conjugate is true, or it is a
 // false abducible literal.
+#![tactic(auto)]
+
 ghost use Rattle.std.specs.Prelude.{◌≡◌, ◌<◌, ◌≤◌};
 ghost use Rattle.literals.specs.Numbering.{judged};
 ghost use Rattle.lanes.specs.Lanes.{backing_word, Written};

@@ -1,3 +1,5 @@
 // The true and the false sets of 64 scenarios: T closed over the rules of the file, F read from the bytes of the dual.
+#![tactic(auto)]
+
 pub mod falsity;
 pub mod truth;

@@ -1,5 +1,7 @@
 // Document 000, section 2.1: the two conjugates. Document 01, Numberings: their numbers, and what else an objective literal has unless it is falsum.
 // No function has a `requires`.
+#![tactic(auto)]
+
 ghost use Rattle.std.specs.Prelude.{◌≡◌};
 ghost use Rattle.literals.specs.Section21.{conj_d, conj_e};
 ghost use Rattle.conjugates.specs.Conjugates.{atom_of, conjugate_of, default_conjugate_of, default_negation_of, literal_of};
@@ -8,19 +10,19 @@ use literals::forms::{Form, FormOf, form_of, literal_number, objective_form};
 use literals::{Atom, Literal, Objective, is_listed, objective_of};
 
 // What falsum has none of is answered by `Nothing`, and so is a number past it.
-#[derive(Drop)]
+#[derive(Clone, Copy)]
 pub enum AtomOf {
     Is(Atom),
     Nothing,
 }
 
-#[derive(Drop)]
+#[derive(Clone, Copy)]
 pub enum Conjugate {
     Is(Objective),
     Nothing,
 }
 
-#[derive(Drop)]
+#[derive(Clone, Copy)]
 pub enum LiteralOf {
     Is(Literal),
     Nothing,

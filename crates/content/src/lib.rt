@@ -1,5 +1,7 @@
 // The tests of a field's content. Each answers the number of the first that fails, and 0 where none
 // does.
+#![tactic(auto)]
+
 ghost use Rattle.std.specs.Prelude.{◌≡◌, ◌+◌, ◌<◌, length};
 ghost use Rattle.papers.specs.Field.{number_in, numbers};
 ghost use Rattle.papers.specs.Content.{abducibles_fault, literal_allowed, literals_fault, is_among, rule_fault, body_fault};

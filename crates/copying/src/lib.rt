@@ -1,4 +1,6 @@
 // The two-byte numbers of bytes, copied into an array of numbers.
+#![tactic(auto)]
+
 ghost use Rattle.std.specs.Prelude.{◌≡◌, ◌+◌, ◌≤◌, length};
 ghost use Rattle.papers.specs.Field.{numbers};
 ghost use Rattle.copying.specs.Laid.{laid};

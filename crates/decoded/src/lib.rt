@@ -1,4 +1,6 @@
 // The numbers of a row, decoded once a call, and those that are read as one of document 01's numberings.
+#![tactic(auto)]
+
 ghost use Rattle.std.specs.Prelude.{◌≡◌, ◌<◌, length, get_or};
 ghost use Rattle.literals.specs.BodyLiterals.{body_literal};
 

@@ -1,5 +1,7 @@
 // The desk program: it reads the files `causes` and `sheet` of its folder, searches for the minimal
 // explanations and prints them.
+#![tactic(auto)]
+
 ghost use Rattle.std.specs.Prelude.{◌≡◌, length};
 ghost use Rattle.io.specs.Counts.{IsPrefixLen};
 ghost use Rattle.papers.specs.Reading.{read_papers};

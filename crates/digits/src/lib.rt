@@ -1,4 +1,6 @@
 // The digits of 64 scenarios that follow one another, as words: a lane for each scenario.
+#![tactic(auto)]
+
 ghost use Rattle.std.specs.Prelude.{◌≡◌, cond, ◌+◌, ◌%◌, ◌<◌, ◌≤◌};
 ghost use Rattle.std.specs.Int.Bits.{bit_or};
 ghost use Rattle.literals.specs.Numbering.{judged};
@@ -46,7 +48,7 @@ fn next_digit(digit: u64) -> u64
 }
 
 // The lanes of the scenarios that have digit 1 at a power of 3, and those that have digit 2.
-#[derive(Drop)]
+#[derive(Clone, Copy)]
 pub struct DigitWords {
     pub assumed: u64,
     pub ruled: u64,

@@ -1,4 +1,6 @@
 // The dual table of a rule file, written into a lent buffer.
+#![tactic(auto)]
+
 mod chains;
 mod entries;
 mod writing;
@@ -14,7 +16,7 @@ use field_writer::write_end;
 use papers::{Contents, FileRead, Refusal};
 
 // What writing answers: the dual's length, or document 01's refusal 11, or one of the file's.
-#[derive(Drop)]
+#[derive(Clone, Copy)]
 pub enum DualWritten {
     Length(usize),
     Short,

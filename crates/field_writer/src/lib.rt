@@ -1,4 +1,6 @@
 // Fields written into a lent buffer, from its start.
+#![tactic(auto)]
+
 ghost use Rattle.std.specs.Prelude.{◌≡◌, [], ◌∷◌, ◌+◌, ◌*◌, ◌/◌, ◌%◌, ◌<◌, ◌≤◌, length, set};
 ghost use Rattle.papers.specs.Encoding.{encode_numbers, encode_field};
 ghost use Rattle.dual.specs.Bytes.{filled, Fills};

@@ -1,4 +1,6 @@
 // One field: one-byte tag, two-byte length, content.
+#![tactic(auto)]
+
 ghost use Rattle.std.specs.Prelude.{◌≡◌, ◌≤◌, length, get_or, drop};
 ghost use Rattle.papers.specs.Field.{fewest, most, length_allowed, field_fault, read_field};
 ghost use Rattle.papers.specs.Answers.{field_answer};

@@ -1,5 +1,7 @@
 // The boundary for C and Rust. Each function writes its answer into eight words of the caller's, as
 // include/finder.h says.
+#![tactic(auto)]
+
 ghost use Rattle.std.specs.Prelude.{◌≡◌, length};
 ghost use Rattle.papers.specs.Reading.{read_file, read_papers};
 ghost use Rattle.papers.specs.Told.{tells, bare_number};

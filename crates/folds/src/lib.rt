@@ -1,5 +1,7 @@
 // The rules of an accepted file, by their fold numbers: where their fields stand, and their bodies as
 // parts of the file.
+#![tactic(auto)]
+
 ghost use Rattle.std.specs.Prelude.{◌≡◌, ◌+◌, ◌<◌, length, drop};
 ghost use Rattle.papers.specs.declared.FileRead.{FileRead};
 ghost use Rattle.papers.specs.Program.{all_rules, rule_at};

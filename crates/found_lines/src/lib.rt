@@ -1,5 +1,7 @@
 // The line that tells an explanation, written into a lent buffer from a place on: at most 512 bytes, and those past the buffer's
 // end are left out.
+#![tactic(auto)]
+
 ghost use Rattle.std.specs.Prelude.{◌≡◌, ◌+◌, ◌<◌, ◌≤◌, ◌^◌, length};
 ghost use Rattle.papers.specs.Field.{numbers};
 ghost use Rattle.decimals.specs.Text.{Put, spaced};

@@ -1,4 +1,6 @@
 // A search that begins.
+#![tactic(auto)]
+
 ghost use Rattle.std.specs.Prelude.{◌≡◌};
 ghost use Rattle.papers.specs.Reading.{read_file};
 ghost use Rattle.held.specs.Masks.{masks};
@@ -9,7 +11,7 @@ use papers::{FileRead, Refusal};
 use steps::Record;
 
 // What a fresh search answers: the record to begin with, or document 02's refusals 15 and 16, or one of the file's.
-#[derive(Drop)]
+#[derive(Clone, Copy)]
 pub enum FreshAnswer {
     Begun(SearchRecord),
     SharedBit,

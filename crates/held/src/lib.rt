@@ -1,4 +1,6 @@
 // Held faults: the two masks of a search, tests 15 and 16 of them, and test 14 of a record that carries them.
+#![tactic(auto)]
+
 ghost use Rattle.std.specs.Prelude.{◌≡◌, ◌≤◌};
 ghost use Rattle.held.specs.Masks.{masks_tested};
 ghost use Rattle.held.specs.HeldCalls.{unfit, spoilt_search_by};
@@ -7,21 +9,21 @@ use spoilt::is_spoilt;
 use steps::Record;
 
 // Faults held as assumed and held as ruled out: bit i for the i-th abducible.
-#[derive(Drop)]
+#[derive(Clone, Copy)]
 pub struct Masks {
     pub assumed: u16,
     pub ruled: u16,
 }
 
 // The record of a search: how far it has come, and both masks.
-#[derive(Drop)]
+#[derive(Clone, Copy)]
 pub struct SearchRecord {
     pub at: Record,
     pub held: Masks,
 }
 
 // What tests 15 and 16 find.
-#[derive(Drop)]
+#[derive(Clone, Copy)]
 pub enum MasksTested {
     Passed,
     SharedBit,

@@ -7,7 +7,7 @@ use text::TextRefusal;
 use text::line::{Brief, LineRead, read_line};
 
 // The fields' length, or the refusal.
-#[derive(Drop)]
+#[derive(Clone, Copy)]
 pub enum RunChecked {
     Length(usize),
     Refused(TextRefusal),
@@ -101,7 +101,7 @@ pub(crate) fn check_run(text: &[u8], flags: [bool; 256], tag: u8, most: usize) -
 }
 
 // The lengths of the rules' fields and of the integrity rules', or the refusal.
-#[derive(Drop)]
+#[derive(Clone, Copy)]
 pub enum RunsChecked {
     Lengths(usize, usize),
     Refused(TextRefusal),

@@ -1,5 +1,7 @@
 // Rules typed as text, imported into an edition 1 file in a lent buffer. The text is read in passes: its tokens and lines and the
 // greatest atom, the abducibles, the checks of the rules and of the integrity rules, and then, once each, to write these.
+#![tactic(auto)]
+
 mod checking;
 mod declaring;
 mod surveying;
@@ -19,7 +21,7 @@ use text::TextRefusal;
 use writing::write_file;
 
 // What importing answers: the file's length, or document 01's refusal 11, or one of the text.
-#[derive(Drop)]
+#[derive(Clone, Copy)]
 pub enum Imported {
     Length(usize),
     Short,

@@ -7,7 +7,7 @@ use text::TextRefusal;
 use text::line::{LineRead, greater, read_line};
 
 // The atom count, or 17 or 18.
-#[derive(Drop)]
+#[derive(Clone, Copy)]
 pub enum Surveyed {
     Atoms(usize),
     Refused(TextRefusal),

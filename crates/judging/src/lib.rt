@@ -1,4 +1,6 @@
 // Judging one scenario of two papers.
+#![tactic(auto)]
+
 ghost use Rattle.papers.specs.Reading.{read_papers};
 ghost use Rattle.judging.specs.Judging.{Judges};
 
@@ -8,7 +10,7 @@ use papers::{PapersRead, Refusal};
 use valuation::judge_accepted;
 
 // What judging answers: verdict and rounds, or document 01's refusals 11, 12 and 13, or one of the papers'.
-#[derive(Drop)]
+#[derive(Clone, Copy)]
 pub enum Judged {
     Verdict { explains: bool, rounds: u64 },
     ShortDual,

@@ -6,7 +6,7 @@ ghost use Rattle.literals.specs.BodyLiterals.{body_literal, body_number, body_li
 use crate::{Literal, is_literal_listed};
 
 // "Reading a body literal yields a number or this constant."
-#[derive(Drop)]
+#[derive(Clone, Copy)]
 pub enum BodyLiteral {
     Is(Literal),
     Undefined,

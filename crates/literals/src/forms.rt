@@ -5,7 +5,7 @@ ghost use Rattle.literals.specs.Numbering.{literal_form, listed_form, literal, n
 
 use crate::{Atom, Literal, Objective, is_listed, is_literal_listed};
 
-#[derive(Drop)]
+#[derive(Clone, Copy)]
 pub enum Form {
     Atom(Atom),
     NegatedAtom(Atom),
@@ -14,7 +14,7 @@ pub enum Form {
 }
 
 // What has no form is answered by `Nothing`.
-#[derive(Drop)]
+#[derive(Clone, Copy)]
 pub enum FormOf {
     Is(Form),
     Nothing,

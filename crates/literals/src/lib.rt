@@ -1,6 +1,8 @@
 // Document 01, Numberings: a type for each of the four, so that a number of one cannot stand where another is due.
 // Atoms and rules are counted in 16 bits, so that every number made of them fits a word and no public function has a `requires`. The other three are as
 // wide as an index, so that each is one where its own array is read.
+#![tactic(auto)]
+
 pub mod bodies;
 pub mod forms;
 
@@ -8,16 +10,16 @@ ghost use Rattle.std.specs.Prelude.{◌≡◌};
 ghost use Rattle.literals.specs.Numbering.{positive, negative, explicitly_negated, objective_number, default_negated};
 ghost use Rattle.literals.specs.Numbering.{falsum, listed, literal_listed, judged, fold_of_rule, fold_of_integrity};
 
-#[derive(Drop)]
+#[derive(Clone, Copy)]
 pub struct Atom(pub u16);
 
-#[derive(Drop)]
+#[derive(Clone, Copy)]
 pub struct Objective(pub usize);
 
-#[derive(Drop)]
+#[derive(Clone, Copy)]
 pub struct Literal(pub usize);
 
-#[derive(Drop)]
+#[derive(Clone, Copy)]
 pub struct Fold(pub usize);
 
 // The atom itself, as an objective literal.

@@ -1,5 +1,7 @@
 // The well-founded model of a scenario: its definitions stand in specs/, its laws in proofs/. The functions that make it are in the crates
 // from lanes to valuation.
+#![tactic(auto)]
+
 ghost use Rattle.std.specs.Prelude.{◌≡◌, ◌^◌, ◌≤◌};
 
 // How many scenarios there are.

@@ -1,4 +1,6 @@
 // The two-byte numbers of a paper, and those that are read as one of document 01's numberings: from here on their types tell them apart.
+#![tactic(auto)]
+
 ghost use Rattle.std.specs.Prelude.{◌≡◌, ◌+◌, ◌<◌, length};
 ghost use Rattle.literals.specs.BodyLiterals.{body_literal, body_number};
 ghost use Rattle.papers.specs.Field.{number_in};

@@ -6,7 +6,7 @@ use crate::numbers::lay;
 use arrays::get;
 
 // How many entries are open, and how many are closed.
-#[derive(Drop)]
+#[derive(Clone, Copy)]
 pub struct Standing {
     pub depth: usize,
     pub closed: usize,

@@ -1,5 +1,7 @@
 // The order in which the passes visit the rows. A row that is visited after those it depends on lets a pass end early, but any
 // order will do that visits every row: one is searched for and tested, and where it fails the rows are visited in their own order.
+#![tactic(auto)]
+
 mod counting;
 mod depth;
 mod numbers;

@@ -1,16 +1,18 @@
 // What is read of the two papers, and what refuses a call. The definitions of reading stand in specs/, their laws in proofs/; the
 // functions that read are in the crates numbered, fields, content, reading, rest and folds.
+#![tactic(auto)]
+
 ghost use Rattle.std.specs.Prelude.{◌≡◌};
 ghost use Rattle.papers.specs.Told.{bare_number};
 
-#[derive(Drop)]
+#[derive(Clone, Copy)]
 pub enum Paper {
     File,
     Sheet,
 }
 
 // Document 01's refusals 1 to 10.
-#[derive(Drop)]
+#[derive(Clone, Copy)]
 pub struct Refusal {
     pub number: u8,
     pub paper: Paper,
@@ -18,7 +20,7 @@ pub struct Refusal {
 }
 
 // The papers' refusals that name no paper and no place.
-#[derive(Drop)]
+#[derive(Clone, Copy)]
 pub enum Bare {
     ShortDual,
     ShortModel,
@@ -43,35 +45,35 @@ pub fn bare_number(bare: Bare) -> u8
 }
 
 // A field that was read: where its content starts and ends.
-#[derive(Drop)]
+#[derive(Clone, Copy)]
 pub enum FieldRead {
     Content { start: usize, end: usize },
     Refused(Refusal),
 }
 
 // A number that was read.
-#[derive(Drop)]
+#[derive(Clone, Copy)]
 pub enum NumberRead {
     Number(usize),
     Refused(Refusal),
 }
 
 // Fields of one tag that were read: how many, and the place after them.
-#[derive(Drop)]
+#[derive(Clone, Copy)]
 pub enum RunRead {
     Run { count: usize, next: usize },
     Refused(Refusal),
 }
 
 // Fields of one tag in an accepted file: how many, and the place of the first.
-#[derive(Drop)]
+#[derive(Clone, Copy)]
 pub struct Fields {
     pub count: usize,
     pub place: usize,
 }
 
 // An accepted file. Its abducibles' field is at place 9, their numbers from place 12 on.
-#[derive(Drop)]
+#[derive(Clone, Copy)]
 pub struct Contents {
     pub atoms: u16,
     pub abducibles: usize,
@@ -80,14 +82,14 @@ pub struct Contents {
     pub end: usize,
 }
 
-#[derive(Drop)]
+#[derive(Clone, Copy)]
 pub enum FileRead {
     Accepted(Contents),
     Refused(Refusal),
 }
 
 // Both papers accepted: the file, and how many literals the query has, from place 3 of the sheet on.
-#[derive(Drop)]
+#[derive(Clone, Copy)]
 pub enum PapersRead {
     Accepted(Contents, usize),
     Refused(Refusal),

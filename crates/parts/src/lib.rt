@@ -1,5 +1,7 @@
 // Parts of the visits to rows. A part is settled for itself: no row up to its end asks for the head of a row after it. Without rings each
 // row is a part; the rows of a ring are in one.
+#![tactic(auto)]
+
 ghost use Rattle.std.specs.Prelude.{◌≡◌, ◌≤◌, ◌<◌, length};
 ghost use Rattle.parts.specs.Parts.{place_of, ends_part, Unmarked, Marked, Parted, PartEnd};
 ghost use Rattle.parts.specs.Reaches.{Lasts, Within, RowReaches};

@@ -1,4 +1,6 @@
 // What a call does with its papers before it judges: the rules, the dual and the query decoded once, with an order in which to visit the rows, in parts.
+#![tactic(auto)]
+
 ghost use Rattle.preparing.specs.Preparing.{PapersStand, Room, Prepares};
 
 use copying::copy_numbers;
@@ -9,7 +11,7 @@ use rows::entries::decode_dual;
 use rows::rules::decode_rules;
 
 // How many folds, judged literals and literals of the query there are.
-#[derive(Drop)]
+#[derive(Clone, Copy)]
 pub struct Counts {
     pub folds: usize,
     pub judged: usize,

@@ -1,4 +1,6 @@
 // All that the desk program prints: the search to its end, and the lines.
+#![tactic(auto)]
+
 mod searching;
 
 ghost use Rattle.std.specs.Prelude.{◌≡◌, ◌≤◌, ◌<◌, ◌^◌, length, take};

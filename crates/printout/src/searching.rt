@@ -11,7 +11,7 @@ use search::Continued;
 use steps::{Record, State};
 
 // The record that the calls reached, the sums over them, and the last one's state.
-#[derive(Drop)]
+#[derive(Clone, Copy)]
 pub(crate) struct Progress {
     pub reached: SearchRecord,
     pub tried: u64,

@@ -1,5 +1,7 @@
 // The two papers: which bytes are a rule file and a query sheet, and under which number and place
 // any others are refused.
+#![tactic(auto)]
+
 mod file;
 
 ghost use Rattle.std.specs.Prelude.{◌≡◌};

@@ -1,5 +1,7 @@
 // The first and the last line that the desk program prints, and that of a refusal, each written into a lent buffer from a place on.
 // Each function answers the place after its line, which is at most 512 bytes long; bytes past the buffer's end are left out.
+#![tactic(auto)]
+
 ghost use Rattle.std.specs.Prelude.{◌∷◌, ◌++◌, ◌+◌, ◌<◌, ◌≤◌, ◌^◌};
 ghost use Rattle.decimals.specs.Decimal.{decimal};
 ghost use Rattle.decimals.specs.Text.{Put};

@@ -1,4 +1,6 @@
 // The rest of a paper that is refused, as a part of it.
+#![tactic(auto)]
+
 ghost use Rattle.std.specs.Prelude.{◌≡◌, ◌≤◌, length, drop};
 ghost use Rattle.papers.specs.Reading.{read_papers};
 ghost use Rattle.papers.specs.Answers.{rest_of, part_start, rest_start};

@@ -14,7 +14,7 @@ use literals::Objective;
 use numbered::{number_at, objective_at};
 
 // The place after the fields that were read, and that after the numbers that were written.
-#[derive(Drop)]
+#[derive(Clone, Copy)]
 struct Reached {
     place: usize,
     at: usize,

@@ -1,3 +1,5 @@
 // The rules and the dual as rows of numbers.
+#![tactic(auto)]
+
 pub mod entries;
 pub mod rules;

@@ -1,4 +1,6 @@
 // The search for minimal explanations.
+#![tactic(auto)]
+
 ghost use Rattle.std.specs.Prelude.{◌≡◌};
 ghost use Rattle.papers.specs.declared.PapersRead.{PapersRead};
 ghost use Rattle.papers.specs.Reading.{read_papers};
@@ -12,7 +14,7 @@ use papers::{Contents, PapersRead, Refusal};
 use trying::{Report, search_accepted};
 
 // What continuing answers: its report, or document 01's refusals 11 and 14, or one of the papers'.
-#[derive(Drop)]
+#[derive(Clone, Copy)]
 pub enum Continued {
     Reported(Report),
     ShortDual,

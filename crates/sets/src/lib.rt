@@ -1,4 +1,6 @@
 // Sets of 64 lanes, written into lent rows: complemented, joined, filled, replaced.
+#![tactic(auto)]
+
 pub mod changes;
 
 ghost use Rattle.std.specs.Prelude.{◌≡◌, ◌≤◌, length};

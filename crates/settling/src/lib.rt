@@ -1,4 +1,5 @@
 // Rounds: T, P and F of 64 scenarios, from one pair to the next until none changes.
+#![tactic(auto)]
 
 ghost use Rattle.std.specs.Prelude.{◌≡◌, cond, ◌<◌, replicate};
 ghost use Rattle.literals.specs.Numbering.{judged};
@@ -73,7 +74,7 @@ fn next_false(
 }
 
 // The lanes in which a round has changed T and F.
-#[derive(Drop)]
+#[derive(Clone, Copy)]
 struct Moved {
     t: u64,
     f: u64,

@@ -1,4 +1,6 @@
 // Test 14, spoilt search.
+#![tactic(auto)]
+
 ghost use Rattle.std.specs.Prelude.{◌≡◌, ◌≤◌, length, take};
 ghost use Rattle.steps.specs.Spoilt.{rising, all_below, spoilt_by};
 

@@ -65,7 +65,7 @@ fn lanes_left(k: usize, list: &[u32], found: usize, table: &[u64; 48], lanes: u6
 }
 
 // The lanes of the explanations that contain none of the first `entries` of a list.
-#[derive(Drop)]
+#[derive(Clone, Copy)]
 pub struct NewLanes {
     pub lanes: u64,
     pub entries: usize,

@@ -1,4 +1,6 @@
 // The single steps of a search as code makes them: what a step does, and the steps of up to 64 scenarios.
+#![tactic(auto)]
+
 mod contained;
 mod digitwise;
 
@@ -10,7 +12,7 @@ use digitwise::contains_one;
 use lanes::words::in_lane;
 
 // What a step does.
-#[derive(Drop)]
+#[derive(Clone, Copy)]
 pub enum Move {
     Stands,
     Tries,
@@ -46,7 +48,7 @@ fn decide(
 }
 
 // How far a call has come: its record, and what it has counted.
-#[derive(Drop)]
+#[derive(Clone, Copy)]
 pub struct Progress {
     pub position: u32,
     pub found: u32,

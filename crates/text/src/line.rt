@@ -12,7 +12,7 @@ use crate::{Scanned, TextRefusal};
 
 // What a line says, briefly: the tag of its field, the place of its first token, the atom that it declares or that of its head, one
 // more than the greatest atom that it names, and how many numbers it has in its field, 18 standing for 18 or more.
-#[derive(Drop)]
+#[derive(Clone, Copy)]
 pub struct Brief {
     pub tag: u8,
     pub start: usize,
@@ -22,7 +22,7 @@ pub struct Brief {
 }
 
 // How far a line was read.
-#[derive(Drop)]
+#[derive(Clone, Copy)]
 pub enum Stage {
     Fresh,
     Declaring(usize),
@@ -36,7 +36,7 @@ pub enum Stage {
     Said(Brief),
 }
 
-#[derive(Drop)]
+#[derive(Clone, Copy)]
 pub enum Move {
     Goes(Stage),
     Ends(Brief),
@@ -233,7 +233,7 @@ pub(crate) fn step(stage: Stage, place: usize, kind: u8, atom: usize) -> Move
 }
 
 // A line that was read: what it says, and the place after it; or the refusal; or that the text ends before any.
-#[derive(Drop)]
+#[derive(Clone, Copy)]
 pub enum LineRead {
     Line { line: Brief, end: usize },
     Refused(TextRefusal),

@@ -1,5 +1,7 @@
 // A call over accepted papers: runs of scenarios that do not agree with the held faults are passed over, the others judged up to 64 at a time and tried
 // one by one.
+#![tactic(auto)]
+
 ghost use Rattle.std.specs.Prelude.{◌≡◌, ◌+◌, ◌≤◌, ◌<◌};
 ghost use Rattle.papers.specs.Field.{numbers};
 ghost use Rattle.steps.specs.Continuing.{state_by};
@@ -18,7 +20,7 @@ use steps::{Record, State};
 use verdicts::{Verdicts, judge_lanes};
 
 // What a call reports: the new record, the scenarios tried and their rounds, and the state.
-#[derive(Drop)]
+#[derive(Clone, Copy)]
 pub struct Report {
     pub new: SearchRecord,
     pub tried: u32,

@@ -1,4 +1,6 @@
 // One scenario over accepted papers, the first of 64 lanes: its verdict, its rounds and the bytes of its model.
+#![tactic(auto)]
+
 mod values;
 
 ghost use Rattle.std.specs.Prelude.{◌≡◌, ◌≤◌, length};
@@ -17,7 +19,7 @@ use values::write_values;
 use verdicts::explained_lanes;
 
 // Whether the scenario is an explanation, and the round count of its model.
-#[derive(Drop)]
+#[derive(Clone, Copy)]
 pub struct Verdict {
     pub explains: bool,
     pub rounds: u64,

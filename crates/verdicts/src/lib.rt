@@ -1,4 +1,6 @@
 // Which of 64 scenarios are explanations.
+#![tactic(auto)]
+
 ghost use Rattle.std.specs.Prelude.{◌<◌, ◌≤◌};
 ghost use Rattle.literals.specs.Numbering.{judged};
 ghost use Rattle.papers.specs.Reading.{program_in};
