@@ -85,7 +85,7 @@ pub record RunTells (tag n : ℕ) (abducibles : List ℕ) (room place : ℕ) (by
   pub bodies : All (GoodContent tag n abducibles) run.contents
   pub stops : get_or (drop run.next bytes) 0 0 ≡ tag → ⊥
 
-pub reads_tell : {tag n : ℕ} {abducibles : List ℕ} {room place : ℕ} {bytes : List ℕ} {run : Run} → (tag ≡ 1 → ⊥)
+pub reads_tell : {tag n : ℕ} {abducibles : List ℕ} {bytes : List ℕ} {room place : ℕ} {run : Run} → (tag ≡ 1 → ⊥)
     → place ≤ length bytes → RunReads tag n abducibles bytes room place run → RunTells tag n abducibles room place bytes run
 unfolding fields_length
 reads_tell h w (ended stop) = record { next_is = omega arith; within = w; few = omega arith; bodies = none; stops = stop }

@@ -64,7 +64,7 @@ field_holds {tag} {place} {full} {bytes} {content} h field =
 
 -- ---- a run of fields
 
-pub run_written : {tag n : ℕ} {abducibles : List ℕ} {room place : ℕ} {bytes : List ℕ} {run : Run} → (tag ≡ 1 → ⊥) → Bytes bytes
+pub run_written : {tag n : ℕ} {abducibles : List ℕ} {bytes : List ℕ} {room place : ℕ} {run : Run} → (tag ≡ 1 → ⊥) → Bytes bytes
     → RunReads tag n abducibles bytes room place run → drop place bytes ≡ encode_run tag run.contents ++ drop run.next bytes
 unfolding encode_run
 run_written h b (ended stop) = refl

@@ -88,7 +88,7 @@ rest_of (refused r) file sheet = rest_from r.paper r.place file sheet
 
 -- Where the part of lent bytes from a place on begins: their block of memory, and an offset into it.
 abbrev pub part_start : Bor (List ℕ) → ℕ → ℕ × ℕ
-part_start bytes place = (bytes.ptr.0, place + bytes.ptr.1)
+part_start bytes place = (bytes.ref_ptr.0, place + bytes.ref_ptr.1)
 
 -- The rest is that paper's own bytes and no others: where it begins.
 abbrev pub rest_start : {A : Type 0} → Outcome A → Bor (List ℕ) → Bor (List ℕ) → ℕ × ℕ

@@ -1,0 +1,16 @@
+-- `conjugates::atom_of` meets its contract: the answer of `is_listed` picks the case, and a listed number halves to one of 16 bits.
+use borrow.Author.Tests.{ltb-true}
+use mathlib.Core.Path.{sym, ◌∙◌}
+use native.Mathlib.Omega.{arith}
+use Rattle.conjugates.proofs.atom_of.Goals as goal
+
+pub overflow_cast-result : goal.overflow_cast-result
+overflow_cast-result c =
+    let listed = sym c.is_listed.ensures ∙ c.if-is_listed.true in
+    omega (arith, ltb-true)
+
+pub returns-then-is_listed : goal.returns-then-is_listed
+returns-then-is_listed c = rw (← c.is_listed.ensures, c.if-is_listed.true)
+
+pub returns-else-is_listed : goal.returns-else-is_listed
+returns-else-is_listed c = rw (← c.is_listed.ensures, c.if-is_listed.false)

@@ -1,0 +1,22 @@
+-- `conjugates::default_conjugate_number` meets its contract: what is listed has a form.
+use mathlib.Core.Path.{sym, ap, ◌∙◌}
+use Rattle.literals.specs.Section21.{conj_d}
+use Rattle.literals.specs.Numbering.{number_of, default_conjugate}
+use Rattle.conjugates.proofs.ConjugateLaws.{form_tells, no_form_tells, default_conjugate_made, no_default_conjugate_made}
+use Rattle.conjugates.proofs.default_conjugate_number.Goals as goal
+
+pub returns-in_default : goal.returns-in_default
+returns-in_default c =
+    let a = c.args in
+    no_default_conjugate_made a.atoms a.l.0
+    (no_form_tells a.atoms a.l.0 (sym c.form_of-form.ensures ∙ c.in_default.is))
+
+pub returns : goal.returns
+unfolding default_conjugate
+returns c =
+    let told = c.before.before in
+    let made = told.before in
+    let a = made.args in
+    let tells = form_tells a.atoms a.l.0 (sym made.form_of-form.ensures ∙ told.in-Is.is) in
+    default_conjugate_made a.atoms a.l.0 tells.0
+    (c.literal_number.ensures ∙ ap number_of (c.default_conjugate-conjugate.ensures ∙ ap conj_d tells.1))
