@@ -14,9 +14,7 @@ returns-in_default c =
 pub returns : goal.returns
 unfolding default_conjugate
 returns c =
-    let told = c.before.before in
-    let made = told.before in
-    let a = made.args in
-    let tells = form_tells a.atoms a.l.0 (sym made.form_of-form.ensures ∙ told.in-Is.is) in
+    let a = c.args in
+    let tells = form_tells a.atoms a.l.0 (sym c.form_of-form.ensures ∙ c.in-Is.is) in
     default_conjugate_made a.atoms a.l.0 tells.0
     (c.literal_number.ensures ∙ ap number_of (c.default_conjugate-conjugate.ensures ∙ ap conj_d tells.1))

@@ -7,21 +7,18 @@ use Rattle.literals.specs.Numbering.{literal, literal_form, objective_number, ob
 use Rattle.literals.proofs.NumberingLaws.{explicit_never_none}
 use Rattle.conjugates.proofs.ConjugateLaws.{form_tells, no_form_tells, conjugate_made, no_conjugate_made}
 use Rattle.conjugates.proofs.explicit_conjugate_number.Goals as goal
-use Rattle.conjugates.proofs.explicit_conjugate_number.Goals.{After-explicit_conjugate-conjugate, In-Is, Start}
+use Rattle.conjugates.proofs.explicit_conjugate_number.Goals.{After-explicit_conjugate-conjugate, Start}
 
 -- ---- once the conjugate of its form is at hand
 
 module _ (c : After-explicit_conjugate-conjugate) where
-  abbrev known : In-Is
-  known = c.before
-
   abbrev start : Start
-  start = known.before.before
+  start = (goal.at.After-explicit_conjugate-conjugate c).Start
 
-  tells : (literal start.args.o.0 < 4 * start.args.atoms) × (known.in-Is.objective ≡ literal_form (literal start.args.o.0))
+  tells : (literal start.args.o.0 < 4 * start.args.atoms) × (c.in-Is.objective ≡ literal_form (literal start.args.o.0))
   tells =
       form_tells start.args.atoms (literal start.args.o.0)
-      (sym known.objective_form-form.ensures ∙ known.in-Is.is)
+      (sym c.objective_form-form.ensures ∙ c.in-Is.is)
 
   by_form : c.explicit_conjugate-conjugate.result ≡ conj_e (literal_form (literal start.args.o.0))
   by_form = c.explicit_conjugate-conjugate.ensures ∙ ap conj_e tells.1
@@ -35,14 +32,11 @@ returns-in_default c =
 pub returns-in-Is-conjugate : goal.returns-in-Is-conjugate
 unfolding explicit_conjugate objective_or
 returns-in-Is-conjugate c =
-    let is = c.before.before in
-    let w = is.before in
-    let a = (start w).args in
-    conjugate_made a.atoms a.o.0 (omega (arith, (tells w).0))
+    let a = (start (goal.at.returns-in-Is-conjugate c).After-explicit_conjugate-conjugate).args in
+    conjugate_made a.atoms a.o.0 (omega (arith, (tells (goal.at.returns-in-Is-conjugate c).After-explicit_conjugate-conjugate).0))
     (c.objective_of.ensures ∙ ap objective_number c.literal_number.ensures
-    ∙ ap (objective_or a.o.0) (sym is.in-Is-conjugate.is ∙ by_form w))
+    ∙ ap (objective_or a.o.0) (sym c.in-Is-conjugate.is ∙ by_form (goal.at.returns-in-Is-conjugate c).After-explicit_conjugate-conjugate))
 
 pub returns-in-Nothing : goal.returns-in-Nothing
 returns-in-Nothing c =
-    let w = c.before in
-    absurd (explicit_never_none (start w).args.o.0 (sym (by_form w) ∙ c.in-Nothing.is))
+    absurd (explicit_never_none (start (goal.at.returns-in-Nothing c).After-explicit_conjugate-conjugate).args.o.0 (sym (by_form (goal.at.returns-in-Nothing c).After-explicit_conjugate-conjugate) ∙ c.in-Nothing.is))

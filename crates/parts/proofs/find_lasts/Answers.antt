@@ -10,14 +10,12 @@ use Rattle.parts.proofs.find_lasts.Goals as goal
 pub loop-done-preserved : goal.loop-done-preserved
 unfolding head_at
 loop-done-preserved c =
-    let placed = c.before.before in
-    let got = placed.before.before in
-    let l = got.loop-done in
-    let a = got.args in (
-      rw placed.put.ensures
-          (lasts_more got.loop-done-test.true
-          (got.get-head.ensures.0 ∙ ap (λ (n : ℕ). get_or a.numbers.now n 0) got.place_of.ensures) l.invariant.0),
-      (placed.put.auto.numbers ∙ l.invariant.1.0, omega arith),
+    let l = c.loop-done in
+    let a = c.args in (
+      rw c.put.ensures
+          (lasts_more c.loop-done-test.true
+          (c.get-head.ensures.0 ∙ ap (λ (n : ℕ). get_or a.numbers.now n 0) c.place_of.ensures) l.invariant.0),
+      (c.put.auto.numbers ∙ l.invariant.1.0, omega arith),
     )
 
 pub returns : goal.returns

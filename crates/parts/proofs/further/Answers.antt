@@ -5,10 +5,8 @@ use Rattle.parts.proofs.further.Goals as goal
 
 pub returns-then-reach-last : goal.returns-then-reach-last
 returns-then-reach-last c =
-    let start = c.before.before.before.before in
-    (omega arith, within_half start.args.lasts.now start.requires.0 c.get-last.ensures.0 (omega arith))
+    (omega arith, within_half c.args.lasts.now c.requires.0 c.get-last.ensures.0 (omega arith))
 
 pub returns-else-reach-last : goal.returns-else-reach-last
 returns-else-reach-last c =
-    let start = c.before.before.before.before in
-    (omega arith, within_half start.args.lasts.now start.requires.0 c.get-last.ensures.0 (omega arith))
+    (omega arith, within_half c.args.lasts.now c.requires.0 c.get-last.ensures.0 (omega arith))

@@ -9,19 +9,17 @@ use Rattle.parts.proofs.mark_parts.Goals as goal
 pub reach_of-reach-requires : goal.reach_of-reach-requires
 unfolding place_of
 reach_of-reach-requires c =
-    let start = c.before.before.before.before.before.before.before.before.before.before.before in
-    (start.requires.0, (start.requires.1.0, (let e = c.place_of.ensures in omega arith)))
+    (c.requires.0, (c.requires.1.0, (let e = c.place_of.ensures in omega arith)))
 
 pub mark-requires : goal.mark-requires
 mark-requires c =
-    let start = c.before.before.before.before.before.before.before.before.before.before.before.before in
-    still_unmarked start.requires.1.1.1 c.loop-done-test.true c.loop-done.invariant.0
+    still_unmarked c.requires.1.1.1 c.loop-done-test.true c.loop-done.invariant.0
 
 pub loop-done-preserved : goal.loop-done-preserved
 loop-done-preserved c =
     let l = c.loop-done in
-    let start = c.before.before.before.before.before.before.before.before.before.before.before.before.before in (
-      marked_more c.mark.result start.requires.1.1.1 start.requires.1.1.0 c.loop-done-test.true
+    (
+      marked_more c.mark.result c.requires.1.1.1 c.requires.1.1.0 c.loop-done-test.true
           c.reach_of-reach.ensures.0 c.place_of.ensures c.reach_of-reach.ensures.1 c.mark.ensures.0
           c.mark.ensures.1 l.invariant.0,
       omega arith,
@@ -29,7 +27,6 @@ loop-done-preserved c =
 
 pub returns : goal.returns
 returns c =
-    let start = c.before.before.before.before.before.before.before.before in
-    let e : c.loop-done.done ≡ start.args.count = omega arith in
+    let e : c.loop-done.done ≡ c.args.count = omega arith in
     let m = rw e at c.loop-done.invariant.0 in
-    (marked_parted start.args.numbers.now start.requires.1.1.1 c.find_lasts.ensures m, m.marked)
+    (marked_parted c.args.numbers.now c.requires.1.1.1 c.find_lasts.ensures m, m.marked)
