@@ -2,15 +2,10 @@
 use mathlib.Core.Path.{sym, ◌∙◌}
 use Rattle.papers.proofs.FieldTests.{fault_cut, fault_stray, fault_full, fault_misfit, fault_short, fault_none}
 use Rattle.fields.proofs.field_fault.Goals as goal
-use Rattle.fields.proofs.field_fault.Goals.{After-length_allowed, Else-full}
 
 -- ---- the places
 
 -- ---- once the length is tested
-
-module _ (c : After-length_allowed) where
-  abbrev free : Else-full
-  free = (goal.at.After-length_allowed c).Else-full
 
 pub returns-then-left-lt3 : goal.returns-then-left-lt3
 returns-then-left-lt3 c = let a = c.args in fault_cut _ _ a.place a.bytes.now c.if-left-lt3.true
@@ -28,17 +23,17 @@ returns-then-full c =
 pub returns-then-not-length_allowed : goal.returns-then-not-length_allowed
 returns-then-not-length_allowed c =
     let a = c.args in
-    fault_misfit _ _ a.place a.bytes.now c.if-left-lt3.false c.if-bytes-place.false (free (goal.at.returns-then-not-length_allowed c).After-length_allowed).if3.false c.number_at-size.ensures.0
+    fault_misfit _ _ a.place a.bytes.now c.if-left-lt3.false c.if-bytes-place.false c.if-full.false c.number_at-size.ensures.0
     (sym c.length_allowed.ensures ∙ c.if-not-length_allowed.true)
 
 pub returns-then-left-size : goal.returns-then-left-size
 returns-then-left-size c =
     let a = c.args in
-    fault_short _ _ a.place a.bytes.now c.if-left-lt3.false c.if-bytes-place.false (free (goal.at.returns-then-left-size c).After-length_allowed).if3.false c.number_at-size.ensures.0
+    fault_short _ _ a.place a.bytes.now c.if-left-lt3.false c.if-bytes-place.false c.if-full.false c.number_at-size.ensures.0
     (sym c.length_allowed.ensures ∙ c.if-not-length_allowed.false) c.if-left-size.true
 
 pub returns : goal.returns
 returns c =
     let a = c.args in
-    fault_none _ _ a.place a.bytes.now c.if-left-lt3.false c.if-bytes-place.false (free (goal.at.returns c).After-length_allowed).if3.false c.number_at-size.ensures.0
+    fault_none _ _ a.place a.bytes.now c.if-left-lt3.false c.if-bytes-place.false c.if-full.false c.number_at-size.ensures.0
     (sym c.length_allowed.ensures ∙ c.if-not-length_allowed.false) c.if-left-size.false
