@@ -9,7 +9,7 @@ use Rattle.papers.specs.Places.{BodyOf}
 use Rattle.papers.proofs.FoldsWalked.{fold_few, place_heading, body_there, body_headed, body_bare}
 use borrow.Author.Rules.{rules}
 use Rattle.folds.proofs.body_of.Goals as goal
-use Rattle.folds.proofs.body_of.Goals.{After-field_end-end, After-rules-1, After-shared_slice_known-1}
+use Rattle.folds.proofs.body_of.Goals.{After-field_end-end, After-shared_slice_known-1}
 
 -- ---- where the file's bytes are known
 
@@ -60,10 +60,10 @@ pub offset_bounds-places-at : goal.offset_bounds-places-at
 offset_bounds-places-at c = omega (arith, few (goal.at.offset_bounds-places-at c).After-shared_slice_known-1)
 
 pub bounds-places-at : goal.bounds-places-at
-bounds-places-at c = few (goal.at.bounds-places-at c).After-rules-1
+bounds-places-at c = few (goal.at.bounds-places-at c).After-shared_slice_known-1
 
 pub field_end-end-requires : goal.field_end-end-requires
-field_end-end-requires c = heading (goal.at.field_end-end-requires c).After-rules-1
+field_end-end-requires c = heading (goal.at.field_end-end-requires c).After-shared_slice_known-1
 
 pub overflow_add-start : goal.overflow_add-start
 overflow_add-start c = let r = after_head (goal.at.overflow_add-start c).After-field_end-end c.if-at-rules.true in omega arith
@@ -71,14 +71,14 @@ overflow_add-start c = let r = after_head (goal.at.overflow_add-start c).After-f
 pub slice_bounds-result-count : goal.slice_bounds-result-count
 slice_bounds-result-count c = let r = after_head (goal.at.slice_bounds-result-count c).After-field_end-end c.if-at-rules.true in omega arith
 
--- NOGOAL part-result-start : tie.Need-slice-bounds-result-start
--- part-result-start c = let r = after_head c.before.before c.if1.true in omega arith
+pub slice_bounds-result-start : goal.slice_bounds-result-start
+slice_bounds-result-start c = let r = after_head (goal.at.slice_bounds-result-start c).After-field_end-end c.if-at-rules.true in omega arith
 
--- NOGOAL part-result-end : tie.Need-slice-bounds-result-end
--- part-result-end c = (after_head c.before.before c.if1.true).1.0
+pub slice_bounds-result-end : goal.slice_bounds-result-end
+slice_bounds-result-end c = (after_head (goal.at.slice_bounds-result-end c).After-field_end-end c.if-at-rules.true).1.0
 
--- NOGOAL part-result-end-2 : tie.Need-slice-bounds-result-end-2
--- part-result-end-2 c = (after_heading c.before.before c.if1.false).1.0
+pub slice_bounds-result-end-else-at-rules : goal.slice_bounds-result-end-else-at-rules
+slice_bounds-result-end-else-at-rules c = (after_heading (goal.at.slice_bounds-result-end-else-at-rules c).After-field_end-end c.if-at-rules.false).1.0
 
 pub returns-then-at-rules : goal.returns-then-at-rules
 returns-then-at-rules c = (after_head (goal.at.returns-then-at-rules c).After-field_end-end c.if-at-rules.true).1.1

@@ -82,6 +82,6 @@ module _ (c : After-loop-i) where
 pub returns : goal.returns
 returns c = record {
   answer = c.requires;
-  at = λ fold h. c.loop-i.invariant.1.1.1.0 fold (omega (arith, all c));
-  beyond = λ i h. c.loop-i.invariant.1.1.1.1 i (omega (arith, all c));
+  at = λ fold h. c.loop-i.invariant.1.1.1.0 fold (omega (arith, all (goal.at.returns c).After-loop-i));
+  beyond = λ i h. c.loop-i.invariant.1.1.1.1 i (omega (arith, all (goal.at.returns c).After-loop-i));
 }

@@ -5,7 +5,7 @@ use lib.ListN.{length, get_or}
 use Rattle.papers.proofs.FoldsWalked.{fold_few, headed, head_there, head_falsum}
 use borrow.Author.Rules.{rules}
 use Rattle.folds.proofs.head_of.Goals as goal
-use Rattle.folds.proofs.head_of.Goals.{After-struct_known-1, Then-at-rules}
+use Rattle.folds.proofs.head_of.Goals.{After-struct_known-1}
 
 -- ---- where the fold's number is taken
 
@@ -27,17 +27,17 @@ pub offset_bounds-places-at : goal.offset_bounds-places-at
 offset_bounds-places-at c = omega (arith, few (goal.at.offset_bounds-places-at c).After-struct_known-1)
 
 pub bounds-places-at : goal.bounds-places-at
-bounds-places-at c = few (goal.at.bounds-places-at c).Then-at-rules
+bounds-places-at c = few (goal.at.bounds-places-at c).After-struct_known-1
 
 pub overflow_add-places : goal.overflow_add-places
-overflow_add-places c = omega (arith, there (goal.at.overflow_add-places c).Then-at-rules c.if-at-rules.true)
+overflow_add-places c = omega (arith, there (goal.at.overflow_add-places c).After-struct_known-1 c.if-at-rules.true)
 
 pub objective_at-requires : goal.objective_at-requires
-objective_at-requires c = omega (arith, there (goal.at.objective_at-requires c).Then-at-rules c.if-at-rules.true)
+objective_at-requires c = omega (arith, there (goal.at.objective_at-requires c).After-struct_known-1 c.if-at-rules.true)
 
 pub returns-then-at-rules : goal.returns-then-at-rules
 returns-then-at-rules c =
-    head_there c.args.file.now c.args.contents c.args.places.now c.requires.0 (λ k. (c.type_inv.file k).fits) (fold (goal.at.returns-then-at-rules c).Then-at-rules)
+    head_there c.args.file.now c.args.contents c.args.places.now c.requires.0 (λ k. (c.type_inv.file k).fits) (fold (goal.at.returns-then-at-rules c).After-struct_known-1)
     c.requires.1 c.if-at-rules.true c.objective_at.ensures.0
 
 pub returns-else-at-rules : goal.returns-else-at-rules
