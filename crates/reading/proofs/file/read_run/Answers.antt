@@ -6,7 +6,7 @@ use native.Mathlib.Nat.{sub-zero}
 use mathlib.Core.Path.{◌≡◌, sym, ap, ◌∙◌}
 use mathlib.Core.Bool.{false}
 use mathlib.Core.List.{List}
-use Prim.Native.Nat.{ℕ, suc, ◌≤◌, ◌<◌, ◌+◌, ◌-◌, ◌*◌}
+use Prim.Native.Nat.{ℕ, suc, ◌<◌, ◌+◌, ◌-◌, ◌*◌}
 use lib.Dec.{eqb}
 use lib.ListN.{length, get_or, take, drop}
 use Rattle.papers.specs.declared.Paper.TheVariants.{File}
@@ -16,15 +16,9 @@ use Rattle.papers.specs.Reading.{Run, read_run}
 use Rattle.papers.specs.Answers.{run_answer}
 use Rattle.papers.proofs.FieldGot.{Got, got_content, got_refused, pairs_length}
 use Rattle.papers.proofs.RunTurn.{run_ended, run_refused, run_fault, run_next}
+use Rattle.reading.proofs.file.read_run.Invariants.{Reached}
 use Rattle.reading.proofs.file.read_run.Goals as goal
 use Rattle.reading.proofs.file.read_run.Goals.{After-read_field-got, In-Content}
-
--- Where the loop stands: what is read from the start on is what is read from here on, after those counted.
-record Reached (file abducibles : List ℕ) (tag atoms limit from place count : ℕ) : Type 0 where
-  within : place ≤ length file
-  few : count ≤ limit
-  same : run_answer 0 (read_run tag atoms (numbers abducibles) limit from file)
-      ≡ run_answer count (read_run tag atoms (numbers abducibles) (limit - count) place file)
 
 -- ---- once a field is asked for
 
