@@ -1,0 +1,71 @@
+-- `rows::rules::decode_rule` meets its contract.
+use native.Mathlib.Omega.{arith}
+use mathlib.Core.Path.{◌≡◌, ◌∙◌}
+use mathlib.Core.List.{List}
+use Prim.Native.Nat.{ℕ, ◌+◌, ◌≤◌, ◌/◌}
+use lib.ListN.{length, set, length-set}
+use Rattle.papers.specs.Program.{Rule, rule_at}
+use Rattle.papers.specs.Reading.{program_in}
+use Rattle.papers.proofs.FoldsWalked.{few_body}
+use Rattle.rows.proofs.RowLaws.{rule_row_length}
+use Rattle.rows.proofs.DecodedLaws.{body_counted, rule_laid}
+use Rattle.rows.proofs.rules.decode_rule.Goals as goal
+use Rattle.rows.proofs.rules.decode_rule.Goals.{After-body_of-body}
+
+-- ---- where the body is found
+
+module _ (c : After-body_of-body) where
+  abbrev rule : Rule
+  rule = rule_at (program_in c.args.file.now) c.args.fold.0
+
+  abbrev body : List ℕ
+  body = c.body_of-body.result.now
+
+  -- There is room for the row.
+  room : c.args.at + (2 + length rule.body) ≤ length c.args.numbers.now
+  room = let l = rule_row_length rule in omega (arith, c.requires.1.1)
+
+  -- Writing its first two numbers leaves the array as long as it was.
+  kept : (x y : ℕ) → length (set (set c.args.numbers.now c.args.at x) (c.args.at + 1) y) ≡ length c.args.numbers.now
+  kept x y =
+      length-set (set c.args.numbers.now c.args.at x) (c.args.at + 1) y ∙ length-set c.args.numbers.now c.args.at x
+
+  -- The body is short.
+  few : length body ≤ 32
+  few =
+      let a = c.args in
+      let f = few_body a.file.now a.contents c.requires.0.answer a.fold.0 c.requires.1.0 in
+      omega (arith, c.body_of-body.ensures.size)
+
+pub bounds-numbers-at : goal.bounds-numbers-at
+bounds-numbers-at c = omega (arith, room (goal.at.bounds-numbers-at c).After-body_of-body)
+
+pub overflow_cast-numbers-2 : goal.overflow_cast-numbers-2
+overflow_cast-numbers-2 c = omega (arith, few (goal.at.overflow_cast-numbers-2 c).After-body_of-body)
+
+pub bounds-numbers-at-2 : goal.bounds-numbers-at-2
+bounds-numbers-at-2 c =
+    let a = c.args in
+    let l = length-set a.numbers.now a.at c.head_of-head.result.0 in
+    omega (arith, room (goal.at.bounds-numbers-at-2 c).After-body_of-body)
+
+pub copy_numbers-requires : goal.copy_numbers-requires
+copy_numbers-requires c =
+    let k = kept (goal.at.copy_numbers-requires c).After-body_of-body c.head_of-head.result.0 (length (body (goal.at.copy_numbers-requires c).After-body_of-body) / 2) in
+    let n = body_counted (rule (goal.at.copy_numbers-requires c).After-body_of-body) (body (goal.at.copy_numbers-requires c).After-body_of-body) c.body_of-body.ensures in
+    omega (arith, room (goal.at.copy_numbers-requires c).After-body_of-body)
+
+pub shape_of-numbers : goal.shape_of-numbers
+shape_of-numbers c =
+    c.copy_numbers.auto.values ∙ kept (goal.at.shape_of-numbers c).After-body_of-body c.head_of-head.result.0 (length (body (goal.at.shape_of-numbers c).After-body_of-body) / 2)
+
+pub returns : goal.returns
+returns c =
+    let a = c.args in
+    let n = body_counted (rule (goal.at.returns c).After-body_of-body) (body (goal.at.returns c).After-body_of-body) c.body_of-body.ensures in
+    let l = rule_row_length (rule (goal.at.returns c).After-body_of-body) in (
+      omega (arith, c.body_of-body.ensures.size),
+      c.copy_numbers.ensures
+          ∙ rule_laid (rule (goal.at.returns c).After-body_of-body) (body (goal.at.returns c).After-body_of-body) c.body_of-body.ensures a.at c.head_of-head.result.0 a.numbers.now c.head_of-head.ensures.0
+          c.requires.1.1,
+    )
