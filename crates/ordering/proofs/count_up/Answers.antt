@@ -1,0 +1,16 @@
+-- `ordering::count_up` meets its contract. The loop's invariant: the first i numbers are written.
+use mathlib.Core.Path.{◌≡◌, refl}
+use Prim.Native.Nat.{◌-◌}
+use native.Mathlib.Omega.{arith}
+use Rattle.ordering.proofs.OrderLaws.{written_more}
+use Rattle.ordering.proofs.count_up.Goals as goal
+
+pub loop-i-preserved : goal.loop-i-preserved
+loop-i-preserved c =
+    let l = c.loop-i in
+    (written_more l.i (let s = l.invariant.0.stays.sized in omega arith) refl l.invariant.0, omega arith)
+
+pub returns : goal.returns
+returns c =
+    let e : c.loop-i.i ≡ c.args.count = omega arith in
+    rw e at c.loop-i.invariant.0
