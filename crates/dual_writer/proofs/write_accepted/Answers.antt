@@ -1,0 +1,87 @@
+-- `dual_writer::write_accepted` meets its contract.
+use mathlib.Core.Path.{◌≡◌, ap, ◌∙◌}
+use Prim.Native.Nat.{◌+◌, ◌≤◌}
+use native.Mathlib.Omega.{arith}
+use lib.ListN.{length, length-drop}
+use Rattle.papers.specs.Outcome.{accepted}
+use Rattle.papers.specs.Program.{Program}
+use Rattle.papers.specs.Reading.{read_file, program_in}
+use Rattle.papers.proofs.FileFacts.{told}
+use Rattle.papers.proofs.NumbersWalked.{to_end}
+use Rattle.dual.proofs.FilledLaws.{put_end}
+use Rattle.dual_writer.specs.Chains.{Chained}
+use Rattle.dual_writer.proofs.TableWriting.{table_length, end_written, dual_short, dual_length_is, dual_fits}
+use Rattle.dual_writer.proofs.write_accepted.Goals as goal
+use Rattle.dual_writer.proofs.write_accepted.Goals.{After-fold_chains-chains, After-write_entries-end, Start}
+
+-- ---- what the file says
+
+module _ (c : Start) where
+  abbrev program : Program
+  program = program_in c.args.file.now
+
+  read : read_file c.args.file.now ≡ accepted program
+  read = (told c.args.file.now c.args.contents c.requires.answer).is
+
+-- ---- once the folds are chained
+
+module _ (c : After-fold_chains-chains) where
+  linked : Chained c.args.file.now c.args.contents c.args.places.now c.fold_chains-chains.result.first c.fold_chains-chains.result.next
+  linked = record { walked = c.requires; chains = c.fold_chains-chains.ensures }
+
+-- ---- once the dual's length is known
+
+-- ---- once the entries are written
+
+module _ (c : After-write_entries-end) where
+  -- There is room for the end.
+  room : c.write_entries-end.result + 3 ≤ length c.write_entries-end.new.buffer
+  room =
+      let w = c.write_entries-end in
+      let size = table_length (program (goal.at.After-write_entries-end c).Start) in
+      omega (arith, w.ensures.0, w.auto.buffer, c.dual_length-size.ensures, c.if-dual-size.false)
+
+pub dual_length-size-requires : goal.dual_length-size-requires
+dual_length-size-requires c = linked (goal.at.dual_length-size-requires c).After-fold_chains-chains
+
+pub returns-then-dual-size : goal.returns-then-dual-size
+returns-then-dual-size c =
+    let a = c.args in
+    dual_short a.file.now a.dual.now (program (goal.at.returns-then-dual-size c).Start) (read (goal.at.returns-then-dual-size c).Start) c.dual_length-size.ensures a.allowed c.if-dual-size.true
+
+pub returns-then-not-allowed : goal.returns-then-not-allowed
+returns-then-not-allowed c =
+    let a = c.args in
+    let size = dual_length_is a.file.now a.dual.now (program (goal.at.returns-then-not-allowed c).Start) (read (goal.at.returns-then-not-allowed c).Start) c.dual_length-size.ensures c.if-dual-size.false in
+    (size, rw (c.if-not-allowed.true))
+
+pub write_entries-end-requires : goal.write_entries-end-requires
+write_entries-end-requires c =
+    (linked (goal.at.write_entries-end-requires c).After-fold_chains-chains, omega (arith, c.dual_length-size.ensures, c.if-dual-size.false))
+
+pub slice_bounds-write_end-count : goal.slice_bounds-write_end-count
+slice_bounds-write_end-count c = omega (arith, room (goal.at.slice_bounds-write_end-count c).After-write_entries-end)
+
+pub slice_bounds-write_end-start : goal.slice_bounds-write_end-start
+slice_bounds-write_end-start c = omega (arith, room (goal.at.slice_bounds-write_end-start c).After-write_entries-end)
+
+pub write_end-requires : goal.write_end-requires
+write_end-requires c =
+    let w = c.write_entries-end in
+    let p = ap length (to_end w.result w.new.buffer) in
+    let d = length-drop w.result w.new.buffer in
+    omega (arith, room (goal.at.write_end-requires c).After-write_entries-end)
+
+pub returns : goal.returns
+returns c =
+    let ended = c.write_end in
+    let w = c.write_entries-end in
+    let a = c.args in
+    let size = c.dual_length-size.ensures in
+    let fits = c.if-dual-size.false in
+    let end = rw (to_end w.result w.new.buffer) at ended.ensures in
+    let whole = end_written (program (goal.at.returns c).Start) a.dual.now w.new.buffer ended.new.buffer w.result w.ensures.0 w.ensures.1 end in (
+      dual_length_is a.file.now a.dual.now (program (goal.at.returns c).Start) (read (goal.at.returns c).Start) size fits,
+      rw (c.if-not-allowed.false)
+          (dual_fits a.file.now a.dual.now (program (goal.at.returns c).Start) (read (goal.at.returns c).Start) size fits _ (put_end w.result w.new.buffer ended.new.buffer ∙ whole)),
+    )
