@@ -1,28 +1,22 @@
 -- The numbers of a line as the loop that gathers them meets them.
 -- Assumes nothing.
 use mathlib.Core.Path.{◌≡◌, refl, sym, ap, ◌∙◌}
-use mathlib.Core.Bool.{true≢false}
 use mathlib.Core.List.{List, [], ◌∷◌}
-use mathlib.Core.Logic.{⊎_elim}
 use Prim.Native.Nat.{ℕ, ◌≤◌, ◌<◌}
 use native.Mathlib.Omega.{arith}
-use denote.Enum.Declared.{tag_of}
-use types.Run.{OneOf}
 use lib.ListN.{length, drop, set, length-drop}
 use Rattle.text.specs.declared.Scanned.{Scanned}
 use Rattle.text.specs.declared.Scanned.TheVariants.{Token, Stray, End}
 use Rattle.text.specs.declared.line.Stage.{Stage}
 use Rattle.text.specs.declared.line.Stage.TheVariants as stage
 use Rattle.text.specs.declared.line.Move.{Move}
-use Rattle.text.specs.declared.line.Move.TheVariants.{Goes, Ends, Bars}
+use Rattle.text.specs.declared.line.Move.TheVariants.{Goes}
 use Rattle.text.specs.Tokens.{next_token, token, end, tokens_from}
 use Rattle.text.specs.Lines.{Reading, accepted, Line, State, fresh, declaring, declared, negated, headed, due, denied, negated_in}
 use Rattle.text.specs.Lines.{denied_negated, said, Step, goes, ends, bars, step, lines_from}
 use Rattle.text.specs.Briefly.{numbers_of, stage_of, move_of, step_briefly}
 use Rattle.text.specs.LineAnswers.{lines_at}
 use Rattle.text.specs.LineNumbers.{padded, place_said, number_said, NumbersTell}
-use Rattle.text.specs.contracts.Scanned.{the_type as scanned-type}
-use Rattle.text.specs.contracts.line.Move.{the_type as move-type}
 use Rattle.text.proofs.Readings.{refused_not, through}
 use Rattle.text.proofs.Stepping.{found}
 use Rattle.text.proofs.LineLaws.{goes_told, follow_goes, follow_ends, follow_bars, stray_told, here, token_bounds, met, stepped}
@@ -62,14 +56,13 @@ module _ {text : List ℕ} {from : ℕ} {stage : Stage} {at : ℕ} {numbers : Li
   s = g.state
 
   -- No token: there is no line here.
-  pub gathered_none : OneOf (1 ∷ 2 ∷ []) (tag_of scanned-type scanned) → NumbersTell text from numbers
-  gathered_none k line rest e = go scanned k (sym (here text at g.within n s) ∙ sym g.reads ∙ e)
+  pub gathered_none : ((kind value start after : ℕ) → scanned ≡ Token kind value start after → ⊥) → NumbersTell text from numbers
+  gathered_none k line rest e = go scanned refl (sym (here text at g.within n s) ∙ sym g.reads ∙ e)
     where
-      go : (x : Scanned) → OneOf (1 ∷ 2 ∷ []) (tag_of scanned-type x) → lines_from s (found text x) ≡ accepted (line ∷ rest)
-          → numbers ≡ padded 17 (numbers_of line)
-      go (Token kind value start after) k q = ⊎_elim (λ (h : ◌≡◌ {A = ℕ} 0 1). absurd (omega arith)) (λ (h : ◌≡◌ {A = ℕ} 0 2). absurd (omega arith)) k
-      go (Stray place) k q = refused_not (sym (stray_told s place) ∙ q)
-      go (End place) k q = no_line s place q
+      go : (x : Scanned) → scanned ≡ x → lines_from s (found text x) ≡ accepted (line ∷ rest) → numbers ≡ padded 17 (numbers_of line)
+      go (Token kind value start after) i q = absurd (k kind value start after i)
+      go (Stray place) i q = refused_not (sym (stray_told s place) ∙ q)
+      go (End place) i q = no_line s place q
 
   module _ {kind value start after : ℕ} (t : scanned ≡ Token kind value start after) {moved : Move} (m : moved ≡ step_briefly stage start kind value) where
     abbrev taken : Step
@@ -104,19 +97,14 @@ module _ {text : List ℕ} {from : ℕ} {stage : Stage} {at : ℕ} {numbers : Li
         }
 
     -- The line ends with this token, or the text is refused at it.
-    pub gathered_done : OneOf (1 ∷ 2 ∷ []) (tag_of move-type moved) → NumbersTell text from numbers
+    pub gathered_done : ((later : Stage) → moved ≡ Goes later → ⊥) → NumbersTell text from numbers
     gathered_done k line rest e = go taken refl does
       where
         ahead : lines_from s (token start kind value (tokens_from after 0 (drop after text))) ≡ accepted (line ∷ rest)
         ahead = sym (met text at g.within n t s) ∙ sym g.reads ∙ e
 
-        none_goes : (x : Move) → OneOf (1 ∷ 2 ∷ []) (tag_of move-type x) → {later : Stage} → x ≡ Goes later → ⊥
-        none_goes (Goes later) k q = ⊎_elim (λ (h : ◌≡◌ {A = ℕ} 0 1). omega arith) (λ (h : ◌≡◌ {A = ℕ} 0 2). omega arith) k
-        none_goes (Ends b) k q = true≢false cc
-        none_goes Bars k q = true≢false cc
-
         go : (x : Step) → taken ≡ x → Gathers s kind value x → numbers ≡ padded 17 (numbers_of line)
-        go (goes later) q d = absurd (none_goes moved k (sym is_moved ∙ ap move_of q))
+        go (goes later) q d = absurd (k (stage_of later) (sym is_moved ∙ ap move_of q))
         go (ends last) q d =
             let f = sym (follow_ends s start kind value (tokens_from after 0 (drop after text)) q) ∙ ahead in
             let r = through (lines_at text fresh after) (λ lines. accepted (last ∷ lines)) f in
