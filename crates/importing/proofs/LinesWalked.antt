@@ -2,11 +2,8 @@
 -- Assumes nothing.
 use mathlib.Core.Path.{◌≡◌, refl, sym, ap, ◌∙◌}
 use mathlib.Core.List.{List, [], ◌∷◌, ◌++◌, map, append_assoc, append-nil}
-use mathlib.Core.Logic.{⊎_elim}
 use Prim.Native.Nat.{ℕ, ◌≤◌, ◌<◌}
 use native.Mathlib.Omega.{arith}
-use denote.Enum.Declared.{tag_of}
-use types.Run.{OneOf}
 use lib.ListN.{length}
 use Rattle.text.specs.declared.TextRefusal.{TextRefusal}
 use Rattle.text.specs.declared.line.Brief.{Brief}
@@ -15,7 +12,6 @@ use Rattle.text.specs.declared.line.LineRead.TheVariants as read
 use Rattle.text.specs.Lines.{Reading, accepted, refused, and_then, Line, fresh, lines_of}
 use Rattle.text.specs.Typed.{Placed, its}
 use Rattle.text.specs.LineAnswers.{lines_at, LineTells, LineEnds}
-use Rattle.text.specs.contracts.line.LineRead.{the_type}
 use Rattle.text.proofs.Readings.{refused_not, through}
 use Rattle.importing.specs.Passes.{lines_in, Typed}
 
@@ -88,10 +84,10 @@ module _ (text : List ℕ) (typed : Typed text) where
 
   -- What is read is no line: the lines are over.
   pub lines_end : {done : List Line} {at : ℕ} → LinesRead text done at → (got : LineRead) → LineTells text fresh at got
-      → OneOf (1 ∷ 2 ∷ []) (tag_of the_type got) → lines_of text ≡ accepted done
-  lines_end {done} {at} g got told k = go got told k
+      → ((b : Brief) (after : ℕ) → got ≡ read.Line b after → ⊥) → lines_of text ≡ accepted done
+  lines_end {done} {at} g got told k = go got refl
     where
-      go : (x : LineRead) → LineTells text fresh at x → OneOf (1 ∷ 2 ∷ []) (tag_of the_type x) → lines_of text ≡ accepted done
-      go (read.Line b after) told k = ⊎_elim (λ (h : ◌≡◌ {A = ℕ} 0 1). absurd (omega arith)) (λ (h : ◌≡◌ {A = ℕ} 0 2). absurd (omega arith)) k
-      go (read.Refused r) told k = no_refusal (lines_refused g told refl)
-      go read.End told k = lines_over g told refl
+      go : (x : LineRead) → got ≡ x → lines_of text ≡ accepted done
+      go (read.Line b after) e = absurd (k b after e)
+      go (read.Refused r) e = no_refusal (lines_refused g told e)
+      go read.End e = lines_over g told e
