@@ -105,13 +105,13 @@ pub fill_words-requires-2 : goal.fill_words-requires-2
 fill_words-requires-2 c = most (goal.at.fill_words-requires-2 c).After-judged-judged
 
 pub overflow_mul-end : goal.overflow_mul-end
-overflow_mul-end c = omega (arith, (listed (goal.at.overflow_mul-end c).After-shared_slice_known-1.before).few)
+overflow_mul-end c = omega (arith, (listed (goal.at.overflow_mul-end c).After-shared_slice_known-1).few)
 
 pub overflow_add-end : goal.overflow_add-end
-overflow_add-end c = omega (arith, (listed (goal.at.overflow_add-end c).After-shared_slice_known-1.before).few)
+overflow_add-end c = omega (arith, (listed (goal.at.overflow_add-end c).After-shared_slice_known-1).few)
 
 pub slice_bounds-listed-end : goal.slice_bounds-listed-end
-slice_bounds-listed-end c = there (goal.at.slice_bounds-listed-end c).After-shared_slice_known-1.before
+slice_bounds-listed-end c = there (goal.at.slice_bounds-listed-end c).After-shared_slice_known-1
 
 pub loop-i-init : goal.loop-i-init
 loop-i-init c =

@@ -1,6 +1,5 @@
 -- `closing::truth::close_part` meets its contract. The loop's invariant: the sets so far are in every set that they began in and that the
 -- rules bring nothing more, and the rules bring them nothing more where the passes have ended.
-use borrow.Author.Rules.{rules}
 use mathlib.Core.Path.{sym, subst}
 use mathlib.Core.List.{List}
 use Prim.Native.Nat.{ℕ}

@@ -46,9 +46,9 @@ loop-start-preserved c =
     let at = c.loop-start in (
       omega (arith, (ends (goal.at.loop-start-preserved c).After-part_end-end).within),
       (
-        at.inv.1.0,
+        at.invariant.1.0,
         (
-          part_closed rows visits at.start c.part_end-end.result (ends (goal.at.loop-start-preserved c).After-part_end-end) at.inv.1.1.1 at.inv.1.1.0 c.close_part.ensures,
+          part_closed rows visits at.start c.part_end-end.result (ends (goal.at.loop-start-preserved c).After-part_end-end) at.invariant.1.1.1 at.invariant.1.1.0 c.close_part.ensures,
           apart_end 0 rows visits at.start c.part_end-end.result c.requires.1 (ends (goal.at.loop-start-preserved c).After-part_end-end),
         ),
       ),

@@ -1,5 +1,4 @@
 -- `dual_writer::chains::fold_chains` meets its contract. The loop's invariant: the rules from here on are linked.
-use borrow.Author.Rules.{rules}
 use mathlib.Core.Path.{◌≡◌}
 use mathlib.Core.List.{List}
 use Prim.Native.Nat.{◌+◌, ◌-◌, ◌≤◌, ◌<◌}

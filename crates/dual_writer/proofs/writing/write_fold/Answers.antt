@@ -51,9 +51,9 @@ loop-i-preserved c =
       omega arith,
       (
         rw put.ensures
-            (conjugated_more _ _ _ _ at.inv.1.0 (fits (goal.at.loop-i-preserved c).After-put_heading) c.loop-i-test.true
+            (conjugated_more _ _ _ _ at.invariant.1.0 (fits (goal.at.loop-i-preserved c).After-put_heading) c.loop-i-test.true
             (conjugated (goal.at.loop-i-preserved c).After-body_number-number)),
-        put.auto.buffer ∙ at.inv.1.1,
+        put.auto.buffer ∙ at.invariant.1.1,
       ),
     )
 

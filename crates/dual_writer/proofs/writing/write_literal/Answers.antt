@@ -62,8 +62,8 @@ pub loop-fold-preserved : goal.loop-fold-preserved
 loop-fold-preserved c =
     let put = c.put_number in
     let at = c.loop-fold in (
-      rw (put.ensures, c.next_fold-fold.ensures) (listed_next _ _ _ _ _ _ at.inv.0 (fits (goal.at.loop-fold-preserved c).After-put_heading) c.loop-fold-test.true),
-      put.auto.buffer ∙ at.inv.1,
+      rw (put.ensures, c.next_fold-fold.ensures) (listed_next _ _ _ _ _ _ at.invariant.0 (fits (goal.at.loop-fold-preserved c).After-put_heading) c.loop-fold-test.true),
+      put.auto.buffer ∙ at.invariant.1,
     )
 
 pub shape_of-buffer : goal.shape_of-buffer
