@@ -10,6 +10,7 @@ use Rattle.parts.specs.Parts.{head_at}
 use Rattle.closing.specs.FalseWords.{Dropped}
 use Rattle.closing.proofs.DroppedLaws.{dropped_none, dropped_less, dropped_same}
 use Rattle.closing.proofs.falsity.drop_pass.Goals as goal
+use Rattle.closing.proofs.falsity.drop_pass.Goals.{then-drop_entry, else-drop_entry}
 
 pub loop-i-init : goal.loop-i-init
 loop-i-init c =
@@ -40,16 +41,16 @@ loop-i-preserved c =
       omega arith,
       (
         refl,
-        ⊎_elim
-            (λ w.
-            rw w.1
+        elim c.if-drop_entry.branch [
+          then-drop_entry w ↦
+            rw w.changed-is
             (dropped_less p a.truth.now a.backing.now a.falses.now visited l.i l.falses l.changed l.invariant.1.1
-            c.requires.0.valid within after moved one w.0.taken))
-            (λ w.
-            rw w.1
+            c.requires.0.valid within after moved one w.if-drop_entry.true)
+        | else-drop_entry w ↦
+            rw w.changed-is
             (dropped_same p a.truth.now a.backing.now a.falses.now visited l.i l.falses l.changed l.invariant.1.1
-            c.requires.0.valid within after moved one w.0.left))
-            c.if-drop_entry.branch,
+            c.requires.0.valid within after moved one w.if-drop_entry.false)
+        ],
       ),
     )
 

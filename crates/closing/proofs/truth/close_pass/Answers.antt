@@ -8,6 +8,7 @@ use lib.ListN.{length}
 use Rattle.closing.specs.Closing.{begun}
 use Rattle.closing.proofs.ClosingLaws.{rule_visited, then_changed, then_kept}
 use Rattle.closing.proofs.truth.close_pass.Goals as goal
+use Rattle.closing.proofs.truth.close_pass.Goals.{then-close_rule, else-close_rule}
 
 pub loop-i-init : goal.loop-i-init
 loop-i-init c = (omega arith, (search rules, begun))
@@ -25,10 +26,10 @@ loop-i-preserved c =
       omega arith,
       (
         l.invariant.1.0,
-        ⊎_elim
-            (λ w. rw w.1 (then_changed l.invariant.1.1 one w.0.taken))
-            (λ w. rw w.1 (then_kept l.invariant.1.1 one w.0.left))
-            c.if-close_rule.branch,
+        elim c.if-close_rule.branch [
+          then-close_rule w ↦ rw w.changed-is (then_changed l.invariant.1.1 one w.if-close_rule.true)
+        | else-close_rule w ↦ rw w.changed-is (then_kept l.invariant.1.1 one w.if-close_rule.false)
+        ],
       ),
     )
 
