@@ -1,0 +1,142 @@
+-- `preparing::prepare` meets its contract.
+use native.Mathlib.Omega.{arith}
+use mathlib.Core.Path.{◌≡◌, sym, ap, ◌∙◌}
+use mathlib.Core.List.{List}
+use Prim.Native.Nat.{ℕ, ◌+◌, ◌≤◌}
+use lib.ListN.{length}
+use Rattle.literals.specs.Numbering.{judged}
+use Rattle.papers.specs.Program.{Program}
+use Rattle.papers.specs.Field.{numbers}
+use Rattle.papers.specs.Reading.{program_in}
+use Rattle.parts.specs.Parts.{Unmarked}
+use Rattle.papers.proofs.NumbersWalked.{count_numbers}
+use Rattle.papers.proofs.FileFacts.{atoms_are}
+use Rattle.papers.proofs.FoldsWalked.{rules_counted, few_folds}
+use Rattle.copying.proofs.LaidLaws.{laid_first}
+use Rattle.rows.specs.Rows.{rule_rows, entry_rows, joined}
+use Rattle.rows.proofs.RowLaws.{rule_rows_count, rule_rows_bound, entry_rows_count, entry_rows_bound}
+use Rattle.preparing.proofs.RowsPrepared.{visits_unmarked, rows_prepared}
+use Rattle.preparing.proofs.prepare.Goals as goal
+use Rattle.preparing.proofs.prepare.Goals.{After-judged-judged, After-order_rows, Start}
+
+-- ---- what the file says
+
+module _ (c : Start) where
+  abbrev program : Program
+  program = program_in c.args.file.now
+
+  abbrev count : ℕ
+  count = c.args.contents.rules.count + c.args.contents.integrity.count
+
+  few : count ≤ 1280
+  few = few_folds c.args.file.now c.args.contents c.requires.0.walked.answer
+
+  rules_listed : count ≡ length (rule_rows program)
+  rules_listed = rules_counted c.args.file.now c.args.contents c.requires.0.walked.answer ∙ sym (rule_rows_count program)
+
+  rules_room : length (joined (rule_rows program)) ≤ length c.args.rules.now
+  rules_room = omega (arith, rule_rows_bound program c.requires.0.starts.valid, c.requires.1.rules_fit)
+
+  entries_room : length (joined (entry_rows program)) ≤ length c.args.entries.now
+  entries_room = omega (arith, entry_rows_bound program c.requires.0.starts.valid, c.requires.1.entries_fit)
+
+-- ---- where the judged literals are counted
+
+module _ (c : After-judged-judged) where
+  counted : c.judged-judged.result ≡ judged (program (goal.at.After-judged-judged c).Start).atoms
+  counted = c.judged-judged.ensures ∙ ap judged (sym (atoms_are c.args.file.now c.args.contents c.requires.0.walked.answer))
+
+  judged_few : c.judged-judged.result ≤ 513
+  judged_few = omega (arith, counted, c.requires.0.starts.valid.few_atoms)
+
+  entries_listed : c.judged-judged.result ≡ length (entry_rows (program (goal.at.After-judged-judged c).Start))
+  entries_listed = counted ∙ sym (entry_rows_count (program (goal.at.After-judged-judged c).Start))
+
+-- ---- one call after the other
+
+pub overflow_add-count : goal.overflow_add-count
+overflow_add-count c = omega (arith, few (goal.at.overflow_add-count c).Start)
+
+pub decode_dual-requires : goal.decode_dual-requires
+decode_dual-requires c =
+    (c.requires.0.starts, (counted (goal.at.decode_dual-requires c).After-judged-judged, (c.requires.1.entries_fit, omega arith)))
+
+pub order_rows-requires : goal.order_rows-requires
+order_rows-requires c =
+    let few-entries = judged_few (goal.at.order_rows-requires c).After-judged-judged in
+    let few-rules = few (goal.at.order_rows-requires c).Start in (
+      few-entries,
+      (
+        few-rules,
+        (
+          omega (arith, c.decode_dual.auto.starts),
+          (
+            omega (arith, c.requires.1.entry_visits_fit),
+            (omega (arith, c.decode_rules.auto.starts), omega (arith, c.requires.1.rule_visits_fit)),
+          ),
+        ),
+      ),
+    )
+
+-- ---- where the rows are ordered
+
+module _ (o : After-order_rows) where
+  abbrev rules_ordered : List ℕ
+  rules_ordered = o.order_rows.new.rule_visits
+
+  abbrev entries_ordered : List ℕ
+  entries_ordered = o.order_rows.new.entry_visits
+
+  rules_unmarked : Unmarked (count (goal.at.After-order_rows o).Start) rules_ordered
+  rules_unmarked =
+      let p = program (goal.at.After-order_rows o).Start in
+      visits_unmarked (rule_rows p) _ o.decode_rules.new.starts rules_ordered (count (goal.at.After-order_rows o).Start) (rules_listed (goal.at.After-order_rows o).Start)
+      (omega (arith, rule_rows_bound p o.requires.0.starts.valid)) o.decode_rules.ensures.1 o.order_rows.ensures.1.0
+
+  entries_unmarked : Unmarked o.judged-judged.result entries_ordered
+  entries_unmarked =
+      let p = program (goal.at.After-order_rows o).Start in
+      visits_unmarked (entry_rows p) _ o.decode_dual.new.starts entries_ordered o.judged-judged.result (entries_listed (goal.at.After-order_rows o).After-judged-judged)
+      (omega (arith, entry_rows_bound p o.requires.0.starts.valid)) o.decode_dual.ensures.1 o.order_rows.ensures.0.0
+
+-- ---- where they are marked
+
+pub mark_parts-requires : goal.mark_parts-requires
+mark_parts-requires c =
+    let few-rules = few (goal.at.mark_parts-requires c).Start in
+    let long = c.order_rows.ensures.1.1.sized in
+    (omega arith, (few-rules, (omega (arith, c.requires.1.rule_visits_fit), rules_unmarked (goal.at.mark_parts-requires c).After-order_rows)))
+
+pub mark_parts-requires-2 : goal.mark_parts-requires-2
+mark_parts-requires-2 c =
+    let few-entries = judged_few (goal.at.mark_parts-requires-2 c).After-judged-judged in
+    let long = c.order_rows.ensures.0.1.sized in
+    (omega arith, (omega arith, (omega (arith, c.requires.1.entry_visits_fit), entries_unmarked (goal.at.mark_parts-requires-2 c).After-order_rows)))
+
+pub copy_numbers-requires : goal.copy_numbers-requires
+copy_numbers-requires c =
+    omega (arith, c.requires.0.asked.few, c.requires.1.asked_fit)
+
+pub shape_of-rules : goal.shape_of-rules
+shape_of-rules c = c.decode_rules.auto.numbers
+
+pub returns : goal.returns
+returns c =
+    let copied = c.copy_numbers in
+    let folds = rules_counted c.args.file.now c.args.contents c.requires.0.walked.answer in
+    let asked = sym (count_numbers c.args.query.now) in
+    record {
+      rules_in_lem =
+          rows_prepared 0 (rule_rows (program (goal.at.returns c).Start)) c.args.rules.now c.decode_rules.new.numbers c.args.rule_visits.now
+          (rules_ordered (goal.at.returns c).After-order_rows) c.mark_parts.new.visits (rules_room (goal.at.returns c).Start) (omega (arith, few (goal.at.returns c).Start, rules_listed (goal.at.returns c).Start, c.requires.1.rule_visits_fit)) _
+          c.decode_rules.new.starts c.decode_rules.ensures.0 c.decode_rules.ensures.1 (count (goal.at.returns c).Start) (rules_listed (goal.at.returns c).Start)
+          c.order_rows.ensures.1.0 c.order_rows.ensures.1.1 c.mark_parts.ensures.0 c.mark_parts.ensures.1;
+      entries_in =
+          rows_prepared 1 (entry_rows (program (goal.at.returns c).Start)) c.args.entries.now c.decode_dual.new.numbers c.args.entry_visits.now
+          (entries_ordered (goal.at.returns c).After-order_rows) c.mark_parts-2.new.visits (entries_room (goal.at.returns c).Start)
+          (omega (arith, judged_few (goal.at.returns c).After-judged-judged, entries_listed (goal.at.returns c).After-judged-judged, c.requires.1.entry_visits_fit)) _
+          c.decode_dual.new.starts c.decode_dual.ensures.0 c.decode_dual.ensures.1 c.judged-judged.result (entries_listed (goal.at.returns c).After-judged-judged)
+          c.order_rows.ensures.0.0 c.order_rows.ensures.0.1 c.mark_parts-2.ensures.0 c.mark_parts-2.ensures.1;
+      query_in = copied.ensures ∙ laid_first (numbers c.args.query.now) c.args.asked.now;
+      counted = λ i. record { folds = folds i; judged = counted (goal.at.returns c).After-judged-judged i; asked = asked i };
+    }
