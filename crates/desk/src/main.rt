@@ -3,25 +3,26 @@
 #![tactic(auto)]
 
 ghost use Rattle.std.specs.Prelude.{◌≡◌, length};
-ghost use Rattle.io.specs.Counts.{IsPrefixLen};
+ghost use Rattle.std.specs.Counts.{IsPrefixLen};
 ghost use Rattle.papers.specs.Reading.{read_papers};
 ghost use Rattle.printout.specs.Output.{desk_text};
 
-use libc::STDOUT_FILENO;
 use printout::write_report;
+use std::fs::File;
+use std::io;
+use std::io::Read;
+use std::rt::Files;
 
 // Reads until the buffer is full or the input ends, and answers how many bytes came; where a read
 // fails, none.
-fn read_all(fd: i32, paper: &mut [u8]) -> usize
+fn read_all(file: &mut impl Read, paper: &mut [u8]) -> usize
     ensures { IsPrefixLen result paper.new }
 {
     let mut size: usize = 0;
     while size < paper.len() {
-        let got = libc::read(fd, &mut paper[size..]);
-        if got < 0 {
+        let Ok(more) = file.read(&mut paper[size..]) else {
             return 0;
-        }
-        let more = io::count(got, &paper[size..]);
+        };
         if more == 0 {
             return size;
         }
@@ -31,32 +32,29 @@ fn read_all(fd: i32, paper: &mut [u8]) -> usize
 }
 
 // The first 65,536 bytes of a file. One that cannot be read counts as empty.
-fn read_paper(path: &[u8], paper: &mut [u8]) -> usize
+fn read_paper(rt: &impl Files, path: &str, paper: &mut [u8]) -> usize
     requires { length paper.old ≡ 65536 }
     ensures { IsPrefixLen result paper.new }
 {
-    let fd = os::open_read(path);
-    if fd < 0 {
+    let Ok(mut file) = File::open(rt, path) else {
         return 0;
-    }
-    let size = read_all(fd, paper);
-    libc::close(fd);
-    size
+    };
+    read_all(&mut file, paper)
 }
 
 // Hands to the system's `write` the text that document 01 has printed of these papers. The papers are lent for the contract: nothing is
 // said of the bytes that `write` takes, so here it is said of those that it is given.
-fn print_text(file: &[u8], sheet: &[u8], text: &[u8])
+fn print_text(rt: &impl Print, file: &[u8], sheet: &[u8], text: &[u8]) -> io::Result<()>
     requires { text.now ≡ desk_text (read_papers file.now sheet.now) }
 {
-    io::write_all(STDOUT_FILENO, text);
+    rt.write_all(text)
 }
 
-fn main() {
+fn main(rt: HostRuntime) -> io::Result<()> {
     let mut file = [0u8; 65536];
-    let file_size = read_paper(b"causes", &mut file);
+    let file_size = read_paper(&rt, "causes", &mut file);
     let mut sheet = [0u8; 65536];
-    let sheet_size = read_paper(b"sheet", &mut sheet);
+    let sheet_size = read_paper(&rt, "sheet", &mut sheet);
     let mut dual = [0u8; 52488];
     let mut list = [0u32; 1024];
     let mut out = [0u8; 98304];
@@ -67,5 +65,5 @@ fn main() {
         &mut list,
         &mut out,
     );
-    print_text(&file[..file_size], &sheet[..sheet_size], &out[..size]);
+    print_text(&rt, &file[..file_size], &sheet[..sheet_size], &out[..size])
 }
