@@ -14,7 +14,7 @@ fn main() {
     if !archive.is_file() {
         println!(
             "cargo::error=target/staticlib/{ARCHIVE} is missing at the repository root: \
-             run `rt staticlib finder_c` there first"
+             run `tools/build` there first"
         );
         return;
     }

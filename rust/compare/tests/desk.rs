@@ -1,7 +1,7 @@
 //! Runs the compiled desk program in folders: those of the examples, and random
 //! ones, where it must print what the separate finder renders.
 //!
-//! `rt check desk` builds it; the gate does so before the tests.
+//! `tools/build` builds it; the gate does so before the tests.
 
 use compare::causes::{causes, consistent_causes, query_of_heads, Causes};
 use compare::damage::{a_few, damaged, Bounds};
@@ -29,7 +29,7 @@ fn printed(folder: &Path) -> String {
     let output = Command::new(program)
         .current_dir(folder)
         .output()
-        .expect("the desk program, which `rt check desk` builds");
+        .expect("the desk program, which `tools/build` builds");
     assert!(output.status.success(), "{output:?}");
     String::from_utf8(output.stdout).expect("a text")
 }

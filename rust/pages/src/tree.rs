@@ -5,7 +5,7 @@ use std::fs;
 use std::path::Path;
 
 /// What is made, and what git keeps, is no part of the project.
-const LEFT_OUT: [&str; 2] = ["target", ".git"];
+const LEFT_OUT: [&str; 3] = ["target", "out", ".git"];
 
 #[derive(Debug)]
 pub struct Tree {
