@@ -1,7 +1,6 @@
 -- `content::abducibles_fault` meets its contract. The loop's invariant: what is asked of all atoms is asked of those from the i-th on.
 use native.Mathlib.Omega.{arith}
 use mathlib.Core.Path.{refl, sym, ◌∙◌}
-use Prim.Native.Nat.{◌-◌}
 use Rattle.papers.proofs.NumbersWalked.{abducibles_done, abducibles_unlisted, abducibles_disorder, abducibles_next}
 use Rattle.content.proofs.abducibles_fault.Goals as goal
 

@@ -1,7 +1,6 @@
 -- `content::is_among` meets its contract. The loop's invariant: what is asked of all abducibles is asked of those from the i-th on.
 use native.Mathlib.Omega.{arith}
 use mathlib.Core.Path.{refl, sym, ◌∙◌}
-use Prim.Native.Nat.{◌-◌}
 use Rattle.papers.proofs.NumbersWalked.{among_done, among_stop, among_next}
 use Rattle.content.proofs.is_among.Goals as goal
 

@@ -1,7 +1,6 @@
 -- `content::literals_fault` meets its contract. The loop's invariant: what is asked of all literals is asked of those from the i-th on.
 use native.Mathlib.Omega.{arith}
 use mathlib.Core.Path.{refl, sym, ◌∙◌}
-use Prim.Native.Nat.{◌-◌}
 use Rattle.papers.proofs.NumbersWalked.{literals_done, literals_stop, literals_next}
 use Rattle.content.proofs.literals_fault.Goals as goal
 

@@ -1,6 +1,6 @@
 -- `copying::copy_numbers` meets its contract. The loop's invariant: the first i numbers are copied.
 use native.Mathlib.Omega.{arith}
-use Prim.Native.Nat.{◌+◌, ◌-◌, ◌<◌}
+use Prim.Native.Nat.{◌+◌, ◌<◌}
 use lib.ListN.{length}
 use Rattle.copying.proofs.CopyLaws.{copied_none, copied_room, copied_more, copied_all}
 use Rattle.copying.proofs.copy_numbers.Goals as goal

@@ -12,8 +12,8 @@ put : (c : Joined-at-buffer) → c.if-at-buffer.buffer ≡ written c.args.at (c.
 put c =
     let a = c.args in
     elim c.if-at-buffer.branch [
-      then-at-buffer w ↦ w.buffer-is ∙ written_one a.at a.byte a.buffer.now
-    | else-at-buffer w ↦ w.buffer-is ∙ written_out a.at a.byte a.buffer.now w.if-at-buffer.false
+      | then-at-buffer w ↦ w.buffer-is ∙ written_one a.at a.byte a.buffer.now
+      | else-at-buffer w ↦ w.buffer-is ∙ written_out a.at a.byte a.buffer.now w.if-at-buffer.false
     ]
 
 pub shape_of-buffer : goal.shape_of-buffer

@@ -1,7 +1,6 @@
 -- `decimals::put_text` meets its contract. The loop's invariant: the bytes from i on are left to put.
 use mathlib.Core.Path.{◌≡◌, refl, ◌∙◌}
 use mathlib.Core.List.{[]}
-use Prim.Native.Nat.{◌-◌}
 use native.Mathlib.Omega.{arith}
 use lib.ListN.{drop, drop_of_length-le}
 use Rattle.decimals.proofs.Putting.{left_all, left_byte, left_none}

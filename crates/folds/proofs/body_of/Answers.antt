@@ -7,7 +7,6 @@ use Rattle.papers.specs.Program.{rule_at}
 use Rattle.papers.specs.Reading.{program_in}
 use Rattle.papers.specs.Places.{BodyOf}
 use Rattle.papers.proofs.FoldsWalked.{fold_few, place_heading, body_there, body_headed, body_bare}
-use borrow.Author.Rules.{rules}
 use Rattle.folds.proofs.body_of.Goals as goal
 use Rattle.folds.proofs.body_of.Goals.{After-field_end-end, After-shared_slice_known-1}
 

@@ -3,7 +3,7 @@ use lib.ListN.{length, length-set, length-replicate}
 use lib.Seq.{get_or-set_other}
 use Rattle.papers.proofs.Lists.{set_more, get_or_zeros}
 use mathlib.Core.Path.{◌≡◌, ◌∙◌}
-use Prim.Native.Nat.{ℕ, ◌+◌, ◌-◌, ◌≤◌}
+use Prim.Native.Nat.{ℕ, ◌+◌, ◌≤◌}
 use native.Mathlib.Omega.{arith}
 use Rattle.papers.specs.Program.{Program, all_rules}
 use Rattle.papers.specs.Reading.{program_in}
@@ -28,14 +28,13 @@ pub overflow_add-count : goal.overflow_add-count
 overflow_add-count c = omega (arith, few (goal.at.overflow_add-count c).Start)
 
 pub loop-i-init : goal.loop-i-init
-loop-i-init c =
-    (
-      omega arith,
-      (
-        first_place c.args.file.now c.args.contents c.requires,
-        (length-replicate {A = ℕ} 1280 0, (λ j h. absurd (omega arith), λ j h. get_or_zeros 1280 j)),
-      ),
-    )
+loop-i-init c = (
+  omega arith,
+  (
+    first_place c.args.file.now c.args.contents c.requires,
+    (length-replicate {A = ℕ} 1280 0, (λ j h. absurd (omega arith), λ j h. get_or_zeros 1280 j)),
+  ),
+)
 
 pub offset_bounds-places-i : goal.offset_bounds-places-i
 offset_bounds-places-i c = omega (arith, few (goal.at.offset_bounds-places-i c).Start)
@@ -56,8 +55,7 @@ overflow_add-i c = omega (arith, few (goal.at.overflow_add-i c).Start)
 
 pub loop-i-preserved : goal.loop-i-preserved
 loop-i-preserved c =
-    let at = c.loop-i in
-    (
+    let at = c.loop-i in (
       omega arith,
       (
         c.field_end-place.ensures

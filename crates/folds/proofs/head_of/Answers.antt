@@ -3,7 +3,6 @@ use Prim.Native.Nat.{ℕ, ◌+◌, ◌<◌}
 use native.Mathlib.Omega.{arith}
 use lib.ListN.{length, get_or}
 use Rattle.papers.proofs.FoldsWalked.{fold_few, headed, head_there, head_falsum}
-use borrow.Author.Rules.{rules}
 use Rattle.folds.proofs.head_of.Goals as goal
 use Rattle.folds.proofs.head_of.Goals.{After-struct_known-1}
 

@@ -1,6 +1,6 @@
 -- `found_lines::put_assumptions` meets its contract. The loop's invariant: the items from the i-th abducible on are left to put.
 use mathlib.Core.Path.{refl, ◌∙◌}
-use Prim.Native.Nat.{◌+◌, ◌-◌, ◌*◌, ◌/◌, ◌%◌}
+use Prim.Native.Nat.{◌+◌, ◌*◌, ◌/◌, ◌%◌}
 use native.Mathlib.Omega.{arith}
 use lib.ListN.{drop}
 use Rattle.papers.specs.Field.{numbers}

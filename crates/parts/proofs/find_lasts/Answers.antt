@@ -1,6 +1,6 @@
 -- `parts::find_lasts` meets its contract. The loop's invariant: the last visits are found among those done.
 use mathlib.Core.Path.{◌≡◌, ap, ◌∙◌}
-use Prim.Native.Nat.{ℕ, ◌-◌}
+use Prim.Native.Nat.{ℕ}
 use native.Mathlib.Omega.{arith}
 use lib.ListN.{get_or}
 use Rattle.parts.specs.Parts.{head_at}

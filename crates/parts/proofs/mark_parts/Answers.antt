@@ -1,6 +1,5 @@
 -- `parts::mark_parts` meets its contract. The loop's invariant: the first visits are marked, and their rows are within `reach`.
 use mathlib.Core.Path.{◌≡◌}
-use Prim.Native.Nat.{◌-◌}
 use native.Mathlib.Omega.{arith}
 use Rattle.parts.specs.Parts.{place_of}
 use Rattle.parts.proofs.ReachLaws.{still_unmarked, marked_more, marked_parted}
@@ -17,8 +16,7 @@ mark-requires c =
 
 pub loop-done-preserved : goal.loop-done-preserved
 loop-done-preserved c =
-    let l = c.loop-done in
-    (
+    let l = c.loop-done in (
       marked_more c.mark.result c.requires.1.1.1 c.requires.1.1.0 c.loop-done-test.true
           c.reach_of-reach.ensures.0 c.place_of.ensures c.reach_of-reach.ensures.1 c.mark.ensures.0
           c.mark.ensures.1 l.invariant.0,

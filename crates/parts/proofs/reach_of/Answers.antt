@@ -1,6 +1,5 @@
 -- `parts::reach_of` meets its contract. The loop's invariant: the first numbers of the row are within `reach`.
 use mathlib.Core.Path.{◌≡◌, ◌∙◌}
-use Prim.Native.Nat.{◌-◌}
 use native.Mathlib.Omega.{arith}
 use Rattle.parts.proofs.ReachLaws.{reaches_more}
 use Rattle.parts.proofs.reach_of.Goals as goal

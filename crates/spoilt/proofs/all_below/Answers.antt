@@ -1,6 +1,5 @@
 -- `spoilt::all_below` meets its contract. The loop's invariant: the entries from i on decide.
 use mathlib.Core.Path.{sym, ◌∙◌}
-use Prim.Native.Nat.{◌-◌}
 use native.Mathlib.Omega.{arith}
 use Rattle.spoilt.proofs.SpoiltLaws.{below_next, below_not, below_end}
 use Rattle.spoilt.proofs.all_below.Goals as goal

@@ -1,6 +1,5 @@
 -- `spoilt::rises` meets its contract. The loop's invariant: the entries from i on decide, with the least that the next may be.
 use mathlib.Core.Path.{sym, ◌∙◌}
-use Prim.Native.Nat.{◌-◌}
 use native.Mathlib.Omega.{arith}
 use Rattle.spoilt.proofs.SpoiltLaws.{rising_next, rising_not, rising_end}
 use Rattle.spoilt.proofs.rises.Goals as goal

@@ -1,7 +1,6 @@
 -- `lanes::words::body_word` meets its contract. The loop's invariant: of the lanes, the body holds in those of the word in which the
 -- literals from the i-th on hold.
 use mathlib.Core.Path.{refl}
-use Prim.Native.Nat.{◌-◌}
 use native.Mathlib.Omega.{arith}
 use Rattle.lanes.proofs.WordLaws.{word_starts, word_ends, word_left, literal_below, word_goes_on}
 use Rattle.lanes.proofs.words.body_word.Goals as goal

@@ -11,7 +11,6 @@ use Rattle.papers.specs.Reading.{Run, read_run}
 use Rattle.papers.specs.Answers.{run_answer}
 use Rattle.papers.proofs.ReadersGot.{Ran, run_accepted, run_not, number_accepted, number_refused}
 use Rattle.papers.proofs.RulesToEnd.{listed_in, rules_refused, rules_within, integrity_refused, integrity_within, end_refused, all_accepted}
-use borrow.Author.Rules.{rules}
 use Rattle.reading.proofs.file.read_rules.Goals as goal
 use Rattle.reading.proofs.file.read_rules.Goals.{After-read_run-denials, After-read_run-rules, In-Run, In-Run-denials}
 

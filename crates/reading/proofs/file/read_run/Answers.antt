@@ -16,7 +16,6 @@ use Rattle.papers.specs.Reading.{Run, read_run}
 use Rattle.papers.specs.Answers.{run_answer}
 use Rattle.papers.proofs.FieldGot.{Got, got_content, got_refused, pairs_length}
 use Rattle.papers.proofs.RunTurn.{run_ended, run_refused, run_fault, run_next}
-use Rattle.reading.proofs.file.read_run.Invariants.{Reached}
 use Rattle.reading.proofs.file.read_run.Goals as goal
 use Rattle.reading.proofs.file.read_run.Goals.{After-read_field-got, In-Content}
 

@@ -3,7 +3,7 @@
 use native.Mathlib.Omega.{arith}
 use mathlib.Core.Path.{◌≡◌, sym, ◌∙◌}
 use mathlib.Core.List.{List}
-use Prim.Native.Nat.{ℕ, ◌+◌, ◌-◌, ◌≤◌, ◌<◌}
+use Prim.Native.Nat.{ℕ, ◌+◌, ◌≤◌, ◌<◌}
 use lib.ListN.{length}
 use Rattle.literals.specs.Numbering.{judged}
 use Rattle.papers.specs.Program.{Program}
@@ -58,14 +58,13 @@ module _ (c : In-loop-i) where
       c.loop-i.numbers c.loop-i.starts c.loop-i.invariant.1.1 listed row (entry_row_at (program (goal.at.In-loop-i c).Start) i below)
 
 pub loop-i-init : goal.loop-i-init
-loop-i-init c =
-    (
-      omega arith,
-      (
-        starts_at (program (goal.at.loop-i-init c).Start) c.args.dual.now c.requires.0,
-        decoded_none (entry_rows (program (goal.at.loop-i-init c).Start)) c.args.numbers.now c.args.starts.now (room (goal.at.loop-i-init c).Start) (starts_room (goal.at.loop-i-init c).Start),
-      ),
-    )
+loop-i-init c = (
+  omega arith,
+  (
+    starts_at (program (goal.at.loop-i-init c).Start) c.args.dual.now c.requires.0,
+    decoded_none (entry_rows (program (goal.at.loop-i-init c).Start)) c.args.numbers.now c.args.starts.now (room (goal.at.loop-i-init c).Start) (starts_room (goal.at.loop-i-init c).Start),
+  ),
+)
 
 pub overflow_cast-starts : goal.overflow_cast-starts
 overflow_cast-starts c = omega (arith, room_here (goal.at.overflow_cast-starts c).In-loop-i, bound (goal.at.overflow_cast-starts c).Start)

@@ -108,14 +108,13 @@ pub bounds-numbers-start : goal.bounds-numbers-start
 bounds-numbers-start c = simp length-set (omega (arith, room (goal.at.bounds-numbers-start c).Start, bare (goal.at.bounds-numbers-start c).Then-found-o))
 
 pub returns-then-found-o : goal.returns-then-found-o
-returns-then-found-o c =
-    (
-      any_next (program (goal.at.returns-then-found-o c).Start) (bytes (goal.at.returns-then-found-o c).Start) (o (goal.at.returns-then-found-o c).Start) (place (goal.at.returns-then-found-o c).Start) (stands (goal.at.returns-then-found-o c).Start) (within (goal.at.returns-then-found-o c).Start) (isnt (goal.at.returns-then-found-o c).Then-found-o),
-      (
-        omega (arith, bare (goal.at.returns-then-found-o c).Then-found-o),
-        bare_laid (program (goal.at.returns-then-found-o c).Start) (bytes (goal.at.returns-then-found-o c).Start) (o (goal.at.returns-then-found-o c).Start) (place (goal.at.returns-then-found-o c).Start) (stands (goal.at.returns-then-found-o c).Start) (within (goal.at.returns-then-found-o c).Start) (isnt (goal.at.returns-then-found-o c).Then-found-o) (at (goal.at.returns-then-found-o c).Start) (numbers (goal.at.returns-then-found-o c).Start) (room (goal.at.returns-then-found-o c).Start),
-      ),
-    )
+returns-then-found-o c = (
+  any_next (program (goal.at.returns-then-found-o c).Start) (bytes (goal.at.returns-then-found-o c).Start) (o (goal.at.returns-then-found-o c).Start) (place (goal.at.returns-then-found-o c).Start) (stands (goal.at.returns-then-found-o c).Start) (within (goal.at.returns-then-found-o c).Start) (isnt (goal.at.returns-then-found-o c).Then-found-o),
+  (
+    omega (arith, bare (goal.at.returns-then-found-o c).Then-found-o),
+    bare_laid (program (goal.at.returns-then-found-o c).Start) (bytes (goal.at.returns-then-found-o c).Start) (o (goal.at.returns-then-found-o c).Start) (place (goal.at.returns-then-found-o c).Start) (stands (goal.at.returns-then-found-o c).Start) (within (goal.at.returns-then-found-o c).Start) (isnt (goal.at.returns-then-found-o c).Then-found-o) (at (goal.at.returns-then-found-o c).Start) (numbers (goal.at.returns-then-found-o c).Start) (room (goal.at.returns-then-found-o c).Start),
+  ),
+)
 
 pub overflow_add-place : goal.overflow_add-place
 overflow_add-place c = omega (arith, whole (goal.at.overflow_add-place c).Else-found-o)
