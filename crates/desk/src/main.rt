@@ -9,7 +9,6 @@ ghost use Rattle.printout.specs.Output.{desk_text};
 
 use printout::write_report;
 use std::fs::File;
-use std::io;
 use std::io::Read;
 use std::rt::Files;
 
@@ -43,14 +42,14 @@ fn read_paper(rt: &impl Files, path: &str, paper: &mut [u8]) -> usize
 }
 
 // Hands to the system's `write` the text that document 01 has printed of these papers. The papers are lent for the contract: nothing is
-// said of the bytes that `write` takes, so here it is said of those that it is given.
-fn print_text(rt: &impl Print, file: &[u8], sheet: &[u8], text: &[u8]) -> io::Result<()>
+// said of the bytes that `write` takes, so here it is said of those that it is given. Where they cannot be written the program ends as ever.
+fn print_text(rt: &impl Print, file: &[u8], sheet: &[u8], text: &[u8])
     requires { text.now ≡ desk_text (read_papers file.now sheet.now) }
 {
-    rt.write_all(text)
+    let _ = rt.write_all(text);
 }
 
-fn main(rt: HostRuntime) -> io::Result<()> {
+fn main(rt: HostRuntime) {
     let mut file = [0u8; 65536];
     let file_size = read_paper(&rt, "causes", &mut file);
     let mut sheet = [0u8; 65536];
@@ -65,5 +64,5 @@ fn main(rt: HostRuntime) -> io::Result<()> {
         &mut list,
         &mut out,
     );
-    print_text(&rt, &file[..file_size], &sheet[..sheet_size], &out[..size])
+    print_text(&rt, &file[..file_size], &sheet[..sheet_size], &out[..size]);
 }
