@@ -1,7 +1,7 @@
 -- Card 4's forms and refusals, by computation.
 -- Assumes nothing.
 use mathlib.Core.Path.{◌≡◌, refl}
-use mathlib.Core.List.{List, [], ◌∷◌, ◌++◌}
+use mathlib.Core.List.{[], ◌∷◌, ◌++◌}
 use Rattle.papers.specs.Outcome as file
 use Rattle.papers.specs.Encoding.{encode_file}
 use Rattle.papers.specs.Reading.{read_file}

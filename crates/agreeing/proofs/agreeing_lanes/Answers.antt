@@ -1,6 +1,6 @@
 -- `agreeing::agreeing_lanes` meets its contract. The loop's invariant: the faults behind are agreed with.
 use mathlib.Core.Path.{◌≡◌, sym, subst, ◌∙◌}
-use Prim.Native.Nat.{ℕ, ◌-◌}
+use Prim.Native.Nat.{ℕ}
 use native.Mathlib.Omega.{arith}
 use Rattle.agreeing.specs.AgreeingLanes.{AgreeingLanes}
 use Rattle.digits.proofs.Powers.{power_fits, power_next}

@@ -1,5 +1,4 @@
 -- `agreeing::agreeing_rounds` meets its contract. The loop's invariant: the lanes behind have their rounds.
-use Prim.Native.Nat.{◌-◌}
 use native.Mathlib.Omega.{arith}
 use Rattle.agreeing.proofs.AgreeingLaws.{rounds_none, rounds_next, rounds_all}
 use Rattle.agreeing.proofs.agreeing_rounds.Goals as goal

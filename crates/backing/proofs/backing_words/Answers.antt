@@ -1,6 +1,6 @@
 -- `backing::backing_words` meets its contract. The loop's invariant: the words passed are written.
 use mathlib.Core.Path.{◌≡◌, subst}
-use Prim.Native.Nat.{ℕ, ◌-◌}
+use Prim.Native.Nat.{ℕ}
 use native.Mathlib.Omega.{arith}
 use Rattle.literals.specs.Numbering.{judged}
 use lib.ListN.{length-set}

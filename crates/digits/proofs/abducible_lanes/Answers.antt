@@ -114,12 +114,11 @@ pub slice_bounds-listed-end : goal.slice_bounds-listed-end
 slice_bounds-listed-end c = there (goal.at.slice_bounds-listed-end c).After-shared_slice_known-1
 
 pub loop-i-init : goal.loop-i-init
-loop-i-init c =
-    (
-      omega arith,
-      seeding_none c.judged-judged.result c.args.base (part (file (goal.at.loop-i-init c).After-shared_slice_known-1) (contents (goal.at.loop-i-init c).After-shared_slice_known-1)) (cleared-of c.fill_words.ensures)
-          (cleared-of c.fill_words-2.ensures),
-    )
+loop-i-init c = (
+  omega arith,
+  seeding_none c.judged-judged.result c.args.base (part (file (goal.at.loop-i-init c).After-shared_slice_known-1) (contents (goal.at.loop-i-init c).After-shared_slice_known-1)) (cleared-of c.fill_words.ensures)
+      (cleared-of c.fill_words-2.ensures),
+)
 
 pub overflow_mul-i : goal.overflow_mul-i
 overflow_mul-i c = omega (arith, (listed (goal.at.overflow_mul-i c).After-shared_slice_known-1).few)

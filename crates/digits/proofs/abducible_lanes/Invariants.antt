@@ -1,6 +1,5 @@
 -- `digits::abducible_lanes` meets its contract. The loop's invariant: the abducibles behind have their words.
 use Prim.Native.Nat.{◌-◌, ◌≤◌}
-use Rattle.literals.specs.Numbering.{judged}
 use Rattle.digits.proofs.SeedLaws.{Seeding}
 use Rattle.digits.proofs.abducible_lanes.Given as goal
 

@@ -1,5 +1,4 @@
 -- `digits::digit_lanes` meets its contract. The loop's invariant: the lanes passed are set by their digits, and a run begins here.
-use Prim.Native.Nat.{◌-◌}
 use native.Mathlib.Nat.{mod-lt}
 use native.Mathlib.Omega.{arith}
 use Rattle.digits.proofs.DigitLaws.{digits_none, digits_small, digits_more, digits_all}

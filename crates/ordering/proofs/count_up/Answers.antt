@@ -1,6 +1,5 @@
 -- `ordering::count_up` meets its contract. The loop's invariant: the first i numbers are written.
 use mathlib.Core.Path.{◌≡◌, refl}
-use Prim.Native.Nat.{◌-◌}
 use native.Mathlib.Omega.{arith}
 use Rattle.ordering.proofs.OrderLaws.{written_more}
 use Rattle.ordering.proofs.count_up.Goals as goal

@@ -1,6 +1,5 @@
 -- `ordering::is_order` meets its contract. The loop's invariant: the places passed and the rows passed pass the test.
 use mathlib.Core.Bool.{false≢true}
-use Prim.Native.Nat.{◌-◌}
 use native.Mathlib.Omega.{arith}
 use Rattle.ordering.specs.Orders.{Placed}
 use Rattle.ordering.proofs.OrderLaws.{placed_there}

@@ -1,6 +1,6 @@
 -- `ordering::visit` meets its contract. The loop's invariant: the first i visits are written.
 use mathlib.Core.Path.{◌≡◌, ap}
-use Prim.Native.Nat.{ℕ, ◌-◌}
+use Prim.Native.Nat.{ℕ}
 use native.Mathlib.Omega.{arith}
 use lib.ListN.{get_or}
 use Rattle.ordering.proofs.OrderLaws.{written_more}

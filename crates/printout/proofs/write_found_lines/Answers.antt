@@ -1,6 +1,6 @@
 -- `printout::write_found_lines` meets its contract. The loop's invariant: the lines of the entries from the i-th on are left to put.
 use mathlib.Core.Path.{refl, ◌∙◌}
-use Prim.Native.Nat.{◌+◌, ◌-◌}
+use Prim.Native.Nat.{◌+◌}
 use native.Mathlib.Omega.{arith}
 use lib.ListN.{get_or, take, drop}
 use Rattle.papers.specs.Field.{numbers}

@@ -1,6 +1,6 @@
 -- `sets::fill_words` meets its contract. The loop's invariant: the words passed are written.
 use mathlib.Core.Path.{◌≡◌, subst}
-use Prim.Native.Nat.{ℕ, ◌-◌}
+use Prim.Native.Nat.{ℕ}
 use native.Mathlib.Omega.{arith}
 use lib.ListN.{length-set}
 use Rattle.lanes.specs.Lanes.{Written}

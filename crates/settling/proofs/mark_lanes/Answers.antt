@@ -1,6 +1,6 @@
 -- `settling::mark_lanes` meets its contract. The loop's invariant: the lanes passed are written.
 use mathlib.Core.Bool.{cond}
-use Prim.Native.Nat.{ℕ, ◌-◌}
+use Prim.Native.Nat.{ℕ}
 use native.Mathlib.Omega.{arith}
 use lib.ListN.{get_or, length-set, length-replicate}
 use Rattle.papers.proofs.Lists.{set_more}

@@ -1,7 +1,7 @@
 -- `stepping::try_lanes` meets its contract. The loop's invariant: the lanes below `lane` are tried, each of them, and the entries that were compared
 -- with all lanes at once stay.
 use mathlib.Core.Path.{◌≡◌, refl, subst, ◌∙◌}
-use Prim.Native.Nat.{ℕ, ◌-◌}
+use Prim.Native.Nat.{ℕ}
 use native.Mathlib.Omega.{arith}
 use Rattle.stepping.specs.Stepping.{LanesTried}
 use Rattle.stepping.proofs.BatchSteps.{lanes_none, lanes_next, lanes_short}

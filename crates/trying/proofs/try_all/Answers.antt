@@ -1,6 +1,6 @@
 -- `trying::try_all` meets its contract. The loop's invariant: as many steps as scenarios tried, and how many come next.
 use mathlib.Core.Path.{◌≡◌, refl, ◌∙◌}
-use Prim.Native.Nat.{◌+◌, ◌-◌, ◌≤◌}
+use Prim.Native.Nat.{◌+◌, ◌≤◌}
 use native.Mathlib.Omega.{arith}
 use Rattle.papers.proofs.FileFacts.{abducibles_are, program_valid}
 use Rattle.trying.proofs.PassedOver.{span_some}

@@ -1,6 +1,6 @@
 -- `verdicts::both_lanes` meets its contract. The loop's invariant: the word has the lanes of the literals passed.
 use mathlib.Core.Path.{◌≡◌, subst}
-use Prim.Native.Nat.{ℕ, ◌-◌}
+use Prim.Native.Nat.{ℕ}
 use native.Mathlib.Omega.{arith}
 use Rattle.verdicts.specs.VerdictLanes.{BothLanes}
 use Rattle.verdicts.proofs.VerdictLaws.{both_none, both_more}

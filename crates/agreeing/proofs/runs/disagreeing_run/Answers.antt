@@ -1,6 +1,6 @@
 -- `agreeing::runs::disagreeing_run` meets its contract. The loop's invariant: the faults behind are looked at.
 use mathlib.Core.Path.{◌≡◌, sym, subst, ◌∙◌}
-use Prim.Native.Nat.{ℕ, ◌-◌}
+use Prim.Native.Nat.{ℕ}
 use native.Mathlib.Nat.{mod-lt}
 use native.Mathlib.Omega.{arith}
 use Rattle.digits.proofs.Powers.{power_fits, power_next}

@@ -1,7 +1,6 @@
 -- `closing::falsity::clause_word` meets its contract. The loop's invariant: the word has the first i literals.
 use borrow.Author.Rules.{rules}
 use native.Mathlib.Omega.{arith}
-use Prim.Native.Nat.{◌-◌}
 use Rattle.closing.proofs.ClauseWords.{some_to_none, some_to_below, some_to_more, some_to_all}
 use Rattle.closing.proofs.falsity.clause_word.Goals as goal
 

@@ -2,7 +2,6 @@
 -- no head of a visit from there on.
 use borrow.Author.Rules.{rules}
 use mathlib.Core.Path.{◌≡◌, refl}
-use Prim.Native.Nat.{◌-◌}
 use native.Mathlib.Omega.{arith}
 use lib.ListN.{length}
 use Rattle.parts.proofs.MarkedParts.{apart_none, apart_end}

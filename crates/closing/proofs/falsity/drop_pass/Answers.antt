@@ -1,7 +1,6 @@
 -- `closing::falsity::drop_pass` meets its contract. The loop's invariant: what dropping the objective literals visited has done.
 use mathlib.Core.Path.{◌≡◌, refl}
-use mathlib.Core.Logic.{⊎_elim}
-use Prim.Native.Nat.{◌<◌, ◌-◌}
+use Prim.Native.Nat.{◌<◌}
 use native.Mathlib.Omega.{arith}
 use lib.ListN.{length}
 use Rattle.literals.specs.Numbering.{judged}
@@ -42,14 +41,14 @@ loop-i-preserved c =
       (
         refl,
         elim c.if-drop_entry.branch [
-          then-drop_entry w ↦
-            rw w.changed-is
-            (dropped_less p a.truth.now a.backing.now a.falses.now visited l.i l.falses l.changed l.invariant.1.1
-            c.requires.0.valid within after moved one w.if-drop_entry.true)
-        | else-drop_entry w ↦
-            rw w.changed-is
-            (dropped_same p a.truth.now a.backing.now a.falses.now visited l.i l.falses l.changed l.invariant.1.1
-            c.requires.0.valid within after moved one w.if-drop_entry.false)
+          | then-drop_entry w ↦
+              rw w.changed-is
+              (dropped_less p a.truth.now a.backing.now a.falses.now visited l.i l.falses l.changed l.invariant.1.1
+              c.requires.0.valid within after moved one w.if-drop_entry.true)
+          | else-drop_entry w ↦
+              rw w.changed-is
+              (dropped_same p a.truth.now a.backing.now a.falses.now visited l.i l.falses l.changed l.invariant.1.1
+              c.requires.0.valid within after moved one w.if-drop_entry.false)
         ],
       ),
     )

@@ -1,8 +1,6 @@
 -- `closing::truth::close_pass` meets its contract. The loop's invariant: the rules visited have been put to use, one after the other.
 use borrow.Author.Rules.{rules}
 use mathlib.Core.Path.{◌≡◌}
-use mathlib.Core.Logic.{⊎_elim}
-use Prim.Native.Nat.{◌-◌}
 use native.Mathlib.Omega.{arith}
 use lib.ListN.{length}
 use Rattle.closing.specs.Closing.{begun}
@@ -27,8 +25,8 @@ loop-i-preserved c =
       (
         l.invariant.1.0,
         elim c.if-close_rule.branch [
-          then-close_rule w ↦ rw w.changed-is (then_changed l.invariant.1.1 one w.if-close_rule.true)
-        | else-close_rule w ↦ rw w.changed-is (then_kept l.invariant.1.1 one w.if-close_rule.false)
+          | then-close_rule w ↦ rw w.changed-is (then_changed l.invariant.1.1 one w.if-close_rule.true)
+          | else-close_rule w ↦ rw w.changed-is (then_kept l.invariant.1.1 one w.if-close_rule.false)
         ],
       ),
     )

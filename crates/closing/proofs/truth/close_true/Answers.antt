@@ -1,7 +1,6 @@
 -- `closing::truth::close_true` meets its contract. The loop's invariant: the sets are closed under the rules of the parts so far, and none of
 -- these asks for a head that comes after them.
 use borrow.Author.Rules.{rules}
-use Prim.Native.Nat.{◌-◌}
 use native.Mathlib.Omega.{arith}
 use lib.ListN.{length}
 use lib.Seq.{take_all}

@@ -1,5 +1,5 @@
 -- `dual_writer::chains::fold_chains` meets its contract. The loop's invariant: the rules from here on are linked.
-use Prim.Native.Nat.{◌-◌, ◌≤◌}
+use Prim.Native.Nat.{◌≤◌}
 use lib.ListN.{length}
 use Rattle.papers.specs.Program.{all_rules}
 use Rattle.papers.specs.Reading.{program_in}

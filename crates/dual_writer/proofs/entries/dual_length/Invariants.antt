@@ -1,7 +1,6 @@
 -- `dual_writer::entries::dual_length` meets its contract. The loop's invariant: what was counted and what is left make the whole.
 use mathlib.Core.Path.{◌≡◌}
 use Prim.Native.Nat.{◌+◌, ◌-◌, ◌≤◌}
-use Rattle.literals.specs.Numbering.{judged}
 use Rattle.papers.specs.Reading.{program_in}
 use Rattle.dual.specs.Length.{entries_length}
 use Rattle.dual_writer.proofs.entries.dual_length.Given as goal

@@ -1,7 +1,7 @@
 -- `dual_writer::entries::rules_length` meets its contract. The loop's invariant: what the walk answers from the start is what it answers from here.
 use mathlib.Core.Path.{◌∙◌}
 use mathlib.Core.List.{List}
-use Prim.Native.Nat.{ℕ, ◌-◌, ◌≤◌, ◌<◌}
+use Prim.Native.Nat.{ℕ, ◌≤◌, ◌<◌}
 use native.Mathlib.Omega.{arith}
 use lib.ListN.{length, get_or}
 use Rattle.papers.specs.Program.{Program, all_rules, rule_at}
@@ -51,12 +51,11 @@ pub body_of-body-requires : goal.body_of-body-requires
 body_of-body-requires c = (c.requires.0.walked, (here (goal.at.body_of-body-requires c).In-loop-fold).below)
 
 pub returns-then-body-eq0 : goal.returns-then-body-eq0
-returns-then-body-eq0 c =
-    (
-      walk_fact (program (goal.at.returns-then-body-eq0 c).At-loop-fold) (next (goal.at.returns-then-body-eq0 c).At-loop-fold) (o (goal.at.returns-then-body-eq0 c).At-loop-fold) (fold (goal.at.returns-then-body-eq0 c).At-loop-fold) c.loop-fold.total c.loop-fold.invariant c.loop-fold-test.true (omega (arith, c.body_of-body.ensures.size))
-          ∙ walk_all (program (goal.at.returns-then-body-eq0 c).At-loop-fold) (o (goal.at.returns-then-body-eq0 c).At-loop-fold),
-      omega arith,
-    )
+returns-then-body-eq0 c = (
+  walk_fact (program (goal.at.returns-then-body-eq0 c).At-loop-fold) (next (goal.at.returns-then-body-eq0 c).At-loop-fold) (o (goal.at.returns-then-body-eq0 c).At-loop-fold) (fold (goal.at.returns-then-body-eq0 c).At-loop-fold) c.loop-fold.total c.loop-fold.invariant c.loop-fold-test.true (omega (arith, c.body_of-body.ensures.size))
+      ∙ walk_all (program (goal.at.returns-then-body-eq0 c).At-loop-fold) (o (goal.at.returns-then-body-eq0 c).At-loop-fold),
+  omega arith,
+)
 
 pub overflow_add-total : goal.overflow_add-total
 overflow_add-total c = omega (arith, c.loop-fold.invariant.bound)

@@ -2,7 +2,6 @@
 use mathlib.Core.Path.{◌≡◌}
 use Prim.Native.Nat.{◌-◌, ◌≤◌}
 use lib.ListN.{length}
-use Rattle.literals.specs.Numbering.{judged}
 use Rattle.papers.specs.Reading.{program_in}
 use Rattle.dual_writer.proofs.TableWriting.{Tabled}
 use Rattle.dual_writer.proofs.entries.write_entries.Given as goal

@@ -1,6 +1,6 @@
 -- `dual_writer::writing::fold_count` meets its contract. The loop's invariant: so many folds lie behind.
 use mathlib.Core.List.{List}
-use Prim.Native.Nat.{ℕ, ◌-◌}
+use Prim.Native.Nat.{ℕ}
 use native.Mathlib.Omega.{arith}
 use Rattle.dual_writer.specs.Chains.{folds_at}
 use Rattle.dual_writer.proofs.ChainLaws.{following_starts, following_done, following_link, following_next}

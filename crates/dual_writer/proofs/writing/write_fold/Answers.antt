@@ -1,7 +1,7 @@
 -- `dual_writer::writing::write_fold` meets its contract. The loop's invariant: the conjugates of the first i literals are written.
 use mathlib.Core.Path.{◌≡◌, refl, ap, ◌∙◌}
 use mathlib.Core.List.{List, map}
-use Prim.Native.Nat.{ℕ, ◌+◌, ◌-◌, ◌*◌, ◌≤◌}
+use Prim.Native.Nat.{ℕ, ◌+◌, ◌*◌, ◌≤◌}
 use native.Mathlib.Omega.{arith}
 use lib.ListN.{length, length-map}
 use Rattle.literals.specs.declared.bodies.BodyLiteral.{BodyLiteral}
@@ -46,8 +46,7 @@ put_number-requires c =
 pub loop-i-preserved : goal.loop-i-preserved
 loop-i-preserved c =
     let put = c.put_number in
-    let at = c.loop-i in
-    (
+    let at = c.loop-i in (
       omega arith,
       (
         rw put.ensures

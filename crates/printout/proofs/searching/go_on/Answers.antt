@@ -1,17 +1,14 @@
 -- `printout::searching::go_on` meets its contract. Papers and buffer are such that the call reports.
 use mathlib.Core.Path.{◌≡◌, sym, ap, ◌∙◌}
 use mathlib.Core.List.{List}
-use mathlib.Core.Logic.{◌⊎◌, inl, inr}
 use Prim.Native.Nat.{ℕ, ◌≤◌}
 use native.Mathlib.Omega.{arith}
-use denote.Enum.Declared.{tag_of}
 use lib.ListN.{length}
 use Rattle.papers.specs.Reading.{read_papers}
 use Rattle.papers.specs.Told.{Told}
 use Rattle.dual.specs.Bytes.{dual_of}
 use Rattle.trying.specs.declared.Report.{Report}
 use Rattle.search.specs.Searching.{continued_told, continue_told}
-use Rattle.search.specs.contracts.Continued.{the_type}
 use Rattle.search.proofs.ContinuedTold.{reported_told}
 use Rattle.printout.specs.DeskSearch.{Accepted, problem_on}
 use Rattle.printout.proofs.PaperLaws.{small, dual_few}

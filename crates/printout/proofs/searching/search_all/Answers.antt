@@ -1,6 +1,6 @@
 -- `printout::searching::search_all` meets its contract. The loop's invariant: the calls stand where they reached, and are finished where they do not go on.
 use mathlib.Core.Path.{refl, sym, subst, ◌∙◌}
-use mathlib.Core.Bool.{Bool, false, true≢false}
+use mathlib.Core.Bool.{Bool, true≢false}
 use Prim.Native.Nat.{ℕ, ◌≤◌, ◌<◌}
 use native.Mathlib.Omega.{arith}
 use lib.ListN.{length}

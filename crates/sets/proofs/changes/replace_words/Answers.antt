@@ -1,6 +1,6 @@
 -- `sets::changes::replace_words` meets its contract. The loop's invariant: the words passed are written, and compared with those before.
 use mathlib.Core.Path.{◌≡◌, subst}
-use Prim.Native.Nat.{ℕ, ◌-◌}
+use Prim.Native.Nat.{ℕ}
 use native.Mathlib.Omega.{arith}
 use lib.ListN.{get_or, length-set}
 use Rattle.lanes.specs.Lanes.{Written, word_at}

@@ -1,6 +1,6 @@
 -- `stepping::contained::digit_table` meets its contract. The loop's invariant: the digits behind have their words.
 use mathlib.Core.Path.{◌≡◌, subst}
-use Prim.Native.Nat.{ℕ, ◌-◌}
+use Prim.Native.Nat.{ℕ}
 use native.Mathlib.Omega.{arith}
 use Rattle.digits.proofs.Powers.{power_fits, power_next}
 use Rattle.stepping.specs.Containing.{DigitTable}

@@ -1,5 +1,4 @@
 -- `stepping::contained::entry_lanes` meets its contract. The loop's invariant: the digits left decide, in the lanes of the word.
-use Prim.Native.Nat.{◌-◌}
 use native.Mathlib.Omega.{arith}
 use Rattle.stepping.proofs.ContainingLaws.{entry_starts, entry_next, entry_zero, entry_none, entry_ends}
 use Rattle.stepping.proofs.contained.entry_lanes.Goals as goal

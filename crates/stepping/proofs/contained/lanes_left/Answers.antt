@@ -1,5 +1,4 @@
 -- `stepping::contained::lanes_left` meets its contract. The loop's invariant: the entries from i on are compared with the lanes left.
-use Prim.Native.Nat.{◌-◌}
 use borrow.Author.Rules.{rules}
 use Rattle.stepping.proofs.ContainingLaws.{left_starts, left_next, left_none, left_ends}
 use Rattle.stepping.proofs.contained.lanes_left.Goals as goal

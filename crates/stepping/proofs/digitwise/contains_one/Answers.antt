@@ -1,6 +1,5 @@
 -- `stepping::digitwise::contains_one` meets its contract. The loop's invariant: the entries from i on decide.
 use mathlib.Core.Path.{sym, ◌∙◌}
-use Prim.Native.Nat.{◌-◌}
 use Rattle.stepping.proofs.PartLoops.{contains_here, contains_next, contains_none}
 use Rattle.stepping.proofs.digitwise.contains_one.Goals as goal
 

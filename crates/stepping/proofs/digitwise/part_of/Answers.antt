@@ -12,7 +12,7 @@ pub loop-left-preserved : goal.loop-left-preserved
 loop-left-preserved c =
     c.loop-left.invariant
     ∙ part_next _ _ _ c.loop-left-test.true
-        (elim c.if-digit-ne0.branch [ then-digit-ne0+else-digit-y w ↦ inr w.if-digit-y.false | else-digit-ne0 w ↦ inl w.if-digit-ne0.false ])
+    (elim c.if-digit-ne0.branch [ then-digit-ne0+else-digit-y w ↦ inr w.if-digit-y.false | else-digit-ne0 w ↦ inl w.if-digit-ne0.false ])
 
 pub returns : goal.returns
 returns c = sym (c.loop-left.invariant ∙ part_done _ _ _ c.loop-left-test.false)

@@ -1,5 +1,4 @@
 -- `valuation::values::write_values` meets its contract. The loop's invariant: the bytes passed are written.
-use Prim.Native.Nat.{◌-◌}
 use mathlib.Core.Path.{◌≡◌, subst}
 use native.Mathlib.Omega.{arith}
 use Rattle.valuation.proofs.ValueLaws.{Valued, valued_none, valued_more, valued_all}
