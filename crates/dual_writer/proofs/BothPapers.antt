@@ -2,15 +2,13 @@
 -- Assumes nothing.
 use mathlib.Core.Path.{◌≡◌, refl, sym, ap, ◌∙◌}
 use mathlib.Core.Bool.{Bool, true, false, cond, true≢false}
-use mathlib.Core.List.{List, [], ◌∷◌}
-use mathlib.Core.Logic.{⊎_elim}
+use mathlib.Core.List.{List}
 use Prim.Native.Nat.{ℕ, ◌+◌, ◌-◌, ◌*◌, ◌^◌, ◌<◌, ◌≤◌}
 use native.Mathlib.Omega.{arith}
 use borrow.Author.Tests.{leb-true, leb-false, le-leb, lt-leb}
-use denote.Enum.Declared.{tag_of}
-use types.Run.{OneOf}
 use lib.Dec.{leb}
 use lib.ListN.{length, take, drop}
+use Rattle.std.proofs.Common.{Result, Ok, Err}
 use Rattle.papers.specs.declared.Contents.{Contents}
 use Rattle.papers.specs.declared.PapersRead.TheVariants.{Accepted}
 use Rattle.papers.specs.Program.{Program, Query}
@@ -24,9 +22,8 @@ use Rattle.papers.specs.Told.{tells, bare_told}
 use Rattle.papers.proofs.NumberLaws.{Bytes}
 use Rattle.papers.proofs.ReadersGot.{papers_accepted}
 use Rattle.papers.proofs.BothAccepted.{BothTold}
-use Rattle.dual_writer.specs.contracts.DualWritten.{the_type}
-use Rattle.dual_writer.specs.declared.DualWritten.{DualWritten}
-use Rattle.dual_writer.specs.declared.DualWritten.TheVariants.{Length, Short, Refused}
+use Rattle.dual_writer.specs.declared.DualError.{DualError}
+use Rattle.dual_writer.specs.declared.DualError.TheVariants.{Short}
 use Rattle.dual.specs.Bytes.{dual_of, filled}
 use Rattle.dual_writer.specs.WrittenDual.{written_told, dual_told, dual_after}
 use Rattle.dual_writer.proofs.WrittenTold.{written_from, written_from_lem}
@@ -72,11 +69,9 @@ module _ {file sheet : List ℕ} {contents : Contents} {literals : ℕ} (both : 
 
 -- ---- the dual
 
--- One of the two other answers was told: it is no length.
-pub other_told : (w : DualWritten) → OneOf (1 ∷ 2 ∷ []) (tag_of the_type w) → (n : ℕ) → w ≡ Length n → ⊥
-other_told (Length m) k n e = ⊎_elim (λ (h : ◌≡◌ {A = ℕ} 0 1). omega arith) (λ (h : ◌≡◌ {A = ℕ} 0 2). omega arith) k
-other_told Short k n e = true≢false cc
-other_told (Refused r) k n e = true≢false cc
+-- An error was told: it is no length.
+pub other_told : {w : Result ℕ DualError} {e : DualError} → w ≡ Err e → (n : ℕ) → w ≡ Ok n → ⊥
+other_told is n e = cc
 
 -- What writing has to tell, by whether it fits.
 told_by_lem : {p : Program} {o : Outcome Program} → o ≡ accepted p → (room : ℕ) (b : Bool) → leb (length (dual_of p)) room ≡ b
@@ -84,10 +79,10 @@ told_by_lem : {p : Program} {o : Outcome Program} → o ≡ accepted p → (room
 unfolding dual_told
 told_by_lem is room b h = rw (is, h)
 
-module _ {p : Program} {o : Outcome Program} (is : o ≡ accepted p) (dual : List ℕ) {written : DualWritten}
+module _ {p : Program} {o : Outcome Program} (is : o ≡ accepted p) (dual : List ℕ) {written : Result ℕ DualError}
     (told : written_told written ≡ dual_told o (length dual)) where
   -- It was written, or can be.
-  pub dual_fits : {n : ℕ} → written ≡ Length n → length (dual_of p) ≤ length dual
+  pub dual_fits : {n : ℕ} → written ≡ Ok n → length (dual_of p) ≤ length dual
   unfolding written_told bare_told
   dual_fits {n} e = go (leb (length (dual_of p)) (length dual)) refl
     where
@@ -96,12 +91,23 @@ module _ {p : Program} {o : Outcome Program} (is : o ≡ accepted p) (dual : Lis
       go false h = absurd (let q = sym (ap written_told e) ∙ told ∙ told_by_lem is (length dual) false h in true≢false cc)
 
   -- There is no room for it.
-  pub dual_short : ((n : ℕ) → written ≡ Length n → ⊥) → length dual < length (dual_of p)
+  pub dual_short : ((n : ℕ) → written ≡ Ok n → ⊥) → length dual < length (dual_of p)
   dual_short none = go (leb (length (dual_of p)) (length dual)) refl
     where
       go : (b : Bool) → leb (length (dual_of p)) (length dual) ≡ b → length dual < length (dual_of p)
       go true h = absurd (none (length (dual_of p)) (sym (written_from_lem written) ∙ ap written_from (told ∙ told_by_lem is (length dual) true h)))
       go false h = leb-false (length (dual_of p)) (length dual) h
+
+  -- So it is wherever an error was told, and no other is.
+  pub dual_refused : {e : DualError} → written ≡ Err e → length dual < length (dual_of p)
+  dual_refused is = dual_short (other_told is)
+
+  pub dual_error : {e : DualError} → written ≡ Err e → e ≡ Short
+  unfolding written_told bare_told
+  dual_error short =
+      let none = told_by_lem is (length dual) false (lt-leb (length (dual_of p)) (length dual) (dual_refused short)) in
+      let e = sym (written_from_lem written) ∙ ap written_from (told ∙ none) in
+      cc
 
 -- The lent buffer afterwards.
 module _ {p : Program} {o : Outcome Program} (is : o ≡ accepted p) (allowed : Bool) (dual : List ℕ) {after : List ℕ}

@@ -8,6 +8,7 @@ use native.Mathlib.Omega.{arith}
 use borrow.Author.Tests.{le-leb, lt-leb}
 use lib.Dec.{leb}
 use lib.ListN.{length, take, drop, length-append}
+use Rattle.std.proofs.Common.{Ok, Err}
 use Rattle.literals.specs.Numbering.{judged}
 use Rattle.papers.specs.Program.{Program, all_rules}
 use Rattle.papers.specs.Outcome.{accepted}
@@ -17,7 +18,7 @@ use Rattle.papers.specs.Told.{tells}
 use Rattle.dual.specs.Table.{Field, has_entry, entry, entry_if_any, entries_from, dual}
 use Rattle.dual.specs.TableEncoding.{encode_fields, encode_dual}
 use Rattle.dual.specs.Length.{rules_length, dual_length}
-use Rattle.dual_writer.specs.declared.DualWritten.TheVariants.{Length, Short}
+use Rattle.dual_writer.specs.declared.DualError.TheVariants.{Short}
 use Rattle.dual.specs.Bytes.{dual_of, filled}
 use Rattle.dual_writer.specs.WrittenDual.{written_told, dual_told, dual_after}
 use Rattle.dual.proofs.AllEntries.{entries_more}
@@ -128,7 +129,7 @@ module _ (bytes buffer : List ℕ) (p : Program) (is : read_file bytes ≡ accep
   same_size = dual_length_lem p ∙ sym sized
 
   pub dual_short : (allowed : Bool) → length buffer < size
-      → (written_told Short ≡ dual_told (read_file bytes) (length buffer)) × (buffer ≡ cond allowed (dual_after (read_file bytes) buffer) buffer)
+      → (written_told (Err Short) ≡ dual_told (read_file bytes) (length buffer)) × (buffer ≡ cond allowed (dual_after (read_file bytes) buffer) buffer)
   unfolding written_told dual_told
   dual_short allowed h =
       let t : leb (length (dual_of p)) (length buffer) ≡ false = rw same_size (lt-leb size (length buffer) h) in
@@ -138,7 +139,7 @@ module _ (bytes buffer : List ℕ) (p : Program) (is : read_file bytes ≡ accep
         go false = refl
 
   -- Where it fits, the answer is its length, whether it is written or not.
-  pub dual_length_is : size ≤ length buffer → written_told (Length size) ≡ dual_told (read_file bytes) (length buffer)
+  pub dual_length_is : size ≤ length buffer → written_told (Ok size) ≡ dual_told (read_file bytes) (length buffer)
   unfolding written_told dual_told
   dual_length_is h =
       let t : leb (length (dual_of p)) (length buffer) ≡ true = rw same_size (le-leb size (length buffer) h) in

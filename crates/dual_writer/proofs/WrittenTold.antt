@@ -2,24 +2,25 @@
 -- Assumes nothing.
 use mathlib.Core.Path.{◌≡◌, refl}
 use Prim.Native.Nat.{ℕ}
+use Rattle.std.proofs.Common.{Result, Ok, Err}
 use Rattle.papers.specs.Outcome.{refusal}
 use Rattle.papers.proofs.ToldLaws.{told_fixes}
 use Rattle.papers.specs.Told.{Told, tells, refused_by, refused_at, bare_told, refusal_told}
-use Rattle.dual_writer.specs.declared.DualWritten.{DualWritten}
-use Rattle.dual_writer.specs.declared.DualWritten.TheVariants.{Length, Short, Refused}
+use Rattle.dual_writer.specs.declared.DualError.{DualError}
+use Rattle.dual_writer.specs.declared.DualError.TheVariants.{Short, Refused}
 use Rattle.dual_writer.specs.WrittenDual.{written_told}
 
 -- Writing is refused by one number that names no paper.
-abbrev pub written_from : Told ℕ → DualWritten
-written_from (tells n) = Length n
-written_from (refused_by n) = Short
-written_from (refused_at n paper place) = Refused (refusal n paper place)
+abbrev pub written_from : Told ℕ → Result ℕ DualError
+written_from (tells n) = Ok n
+written_from (refused_by n) = Err Short
+written_from (refused_at n paper place) = Err (Refused (refusal n paper place))
 
-pub written_from_lem : (r : DualWritten) → written_from (written_told r) ≡ r
+pub written_from_lem : (r : Result ℕ DualError) → written_from (written_told r) ≡ r
 unfolding written_told bare_told refusal_told
-written_from_lem (Length n) = refl
-written_from_lem Short = refl
-written_from_lem (Refused r) = refl
+written_from_lem (Ok n) = refl
+written_from_lem (Err Short) = refl
+written_from_lem (Err (Refused r)) = refl
 
-pub written_fixed : {r s : DualWritten} → written_told r ≡ written_told s → r ≡ s
+pub written_fixed : {r s : Result ℕ DualError} → written_told r ≡ written_told s → r ≡ s
 written_fixed = told_fixes written_told written_from written_from_lem

@@ -15,22 +15,21 @@ use entries::{dual_length, write_entries};
 use field_writer::write_end;
 use papers::{Contents, FileRead, Refusal};
 
-// What writing answers: the dual's length, or document 01's refusal 11, or one of the file's.
+// Why no dual is written: document 01's refusal 11, or one of the file's.
 #[derive(Clone, Copy)]
-pub enum DualWritten {
-    Length(usize),
+pub enum DualError {
     Short,
     Refused(Refusal),
 }
 
-// The dual of a file that was read already, into a buffer that stays as it is where `allowed` is false.
+// The dual's length. The dual of a file that was read already goes into a buffer that stays as it is where `allowed` is false.
 pub fn write_accepted(
     file: &[u8],
     contents: Contents,
     places: &[usize; 1280],
     dual: &mut [u8],
     allowed: bool,
-) -> DualWritten
+) -> Result<usize, DualError>
     requires { Walked file.now contents places.now }
     ensures { (written_told result ≡ dual_told (read_file file.now) (length dual.old))
         × (dual.new ≡ cond allowed (dual_after (read_file file.now) dual.old) dual.old) }
@@ -40,26 +39,26 @@ pub fn write_accepted(
     let next = chains.next;
     let size = dual_length(file, contents, places, &first, &next);
     if dual.len() < size {
-        return DualWritten::Short;
+        return Err(DualError::Short);
     }
     if !allowed {
-        return DualWritten::Length(size);
+        return Ok(size);
     }
     let end = write_entries(dual, file, contents, places, &first, &next);
     write_end(&mut dual[end..]);
-    DualWritten::Length(size)
+    Ok(size)
 }
 
-pub fn write_dual(file: &[u8], dual: &mut [u8]) -> DualWritten
+pub fn write_dual(file: &[u8], dual: &mut [u8]) -> Result<usize, DualError>
     ensures { (written_told result ≡ dual_told (read_file file.now) (length dual.old))
         × (dual.new ≡ dual_after (read_file file.now) dual.old) }
 {
     let read = reading::read_file(file);
     let FileRead::Accepted(contents) = read else {
         let FileRead::Refused(refusal) = read else {
-            return DualWritten::Short;
+            return Err(DualError::Short);
         };
-        return DualWritten::Refused(refusal);
+        return Err(DualError::Refused(refusal));
     };
     let places = folds::fold_places(file, contents);
     write_accepted(file, contents, &places, dual, true)
