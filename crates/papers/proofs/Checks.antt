@@ -5,8 +5,7 @@ use mathlib.Core.Bool.{Bool, true, false, ◌&&◌, true≢false}
 use Prim.Native.Nat.{ℕ, zero, suc}
 use native.Mathlib.Omega.{arith}
 use Rattle.papers.specs.declared.Paper.{Paper}
-use Rattle.papers.specs.declared.Refusal.{Refusal}
-use Rattle.papers.specs.Outcome.{Outcome, accepted, refused, refusal, check, passing, and_then}
+use Rattle.papers.specs.Outcome.{Refusal, Outcome, accepted, refused, refusal, check, passing, and_then}
 
 -- ---- checks
 

@@ -1,63 +1,12 @@
--- What `let .. else` finds of a field read: the content as a part of the paper, or the refusal.
+-- What a test of a length tells, as the code meets it.
 -- Assumes nothing.
-use mathlib.Core.Path.{◌≡◌, refl, sym, ap, subst, ◌∙◌}
+use mathlib.Core.Path.{◌≡◌, refl}
 use mathlib.Core.Bool.{Bool, true, false, ◌&&◌, cond, true≢false}
-use mathlib.Core.List.{List}
-use Prim.Native.Nat.{ℕ, ◌+◌, ◌-◌, ◌*◌, ◌%◌, ◌≤◌}
-use native.Mathlib.Omega.{arith}
+use Prim.Native.Nat.{ℕ, ◌*◌, ◌%◌, ◌≤◌}
 use borrow.Author.Tests.{leb-true, eqb-true, ne_eqb}
 use lib.Dec.{eqb, leb}
-use lib.ListN.{length, take, drop}
-use Rattle.papers.specs.declared.Paper.{Paper}
-use Rattle.papers.specs.declared.Refusal.{Refusal}
-use Rattle.papers.specs.declared.FieldRead.{FieldRead}
-use Rattle.papers.specs.declared.FieldRead.TheVariants.{Content, Refused}
-use Rattle.papers.specs.Outcome.{Outcome, accepted, refused}
-use Rattle.papers.specs.Field.{fewest, most, length_allowed, read_field}
-use Rattle.papers.specs.Answers.{field_answer}
+use Rattle.papers.specs.Field.{fewest, most, length_allowed}
 use Rattle.papers.proofs.Checks.{both}
-use Rattle.papers.proofs.FieldLaws.{field_tells}
-
--- The field is whole, and its content is the part of the paper from start to end.
-pub record Got (paper : Paper) (tag : ℕ) (full : Bool) (place : ℕ) (bytes : List ℕ) (start end : ℕ) : Type 0 where
-  pub read : read_field paper tag full place bytes ≡ accepted (take (end - start) (drop start bytes))
-  pub starts : start ≡ place + 3
-  pub ordered : start ≤ end
-  pub within : end ≤ length bytes
-  pub sized : length (take (end - start) (drop start bytes)) ≡ end - start
-  pub allowed : length_allowed tag (end - start) ≡ true
-  pub room : full ≡ false
-
-module _ (paper : Paper) (tag : ℕ) (full : Bool) (place : ℕ) (bytes : List ℕ) {got : FieldRead}
-    (is : got ≡ field_answer place (read_field paper tag full place bytes)) where
-  pub got_content : (start end : ℕ) → got ≡ Content start end → Got paper tag full place bytes start end
-  got_content start end e = by (read_field paper tag full place bytes) refl (sym is ∙ e) where
-    by : (o : Outcome (List ℕ)) → read_field paper tag full place bytes ≡ o → field_answer place o ≡ Content start end → Got paper tag full place bytes start end
-    by (refused r) q h = absurd (true≢false cc)
-    by (accepted content) q h =
-        let w = field_tells paper tag full place bytes content q in
-        let s : place + 3 ≡ start = cc in
-        let f : place + 3 + length content ≡ end = cc in
-        let d : length content ≡ end - start = omega arith in
-        let p : content ≡ take (end - start) (drop start bytes) =
-        w.content_is ∙ ap (λ (n : ℕ). take n (drop (place + 3) bytes)) d ∙ ap (λ (n : ℕ). take (end - start) (drop n bytes)) s in
-        record {
-          read = q ∙ ap accepted p;
-          starts = sym s;
-          ordered = omega arith;
-          within = omega (arith, w.within);
-          sized = sym (ap length p) ∙ d;
-          allowed = subst (λ (n : ℕ). length_allowed tag n ≡ true) d w.allowed;
-          room = w.room;
-        }
-
-  pub got_refused : {r : Refusal} → got ≡ Refused r → read_field paper tag full place bytes ≡ refused r
-  got_refused {r} e = by (read_field paper tag full place bytes) (sym is ∙ e) where
-    by : (o : Outcome (List ℕ)) → field_answer place o ≡ Refused r → o ≡ refused r
-    by (refused x) h = let z : x ≡ r = cc in ap refused z
-    by (accepted content) h = absurd (true≢false cc)
-
--- ---- lengths
 
 pub edition_length : (len : ℕ) → length_allowed 0x01 len ≡ true → len ≡ 1
 unfolding length_allowed

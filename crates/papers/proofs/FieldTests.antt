@@ -7,15 +7,17 @@ use Prim.Native.Nat.{ℕ, ◌+◌, ◌-◌, ◌≤◌, ◌<◌}
 use native.Mathlib.Omega.{arith}
 use borrow.Author.Tests.{le-leb, lt-leb, eq-eqb, ne_eqb}
 use lib.Dec.{leb}
-use lib.ListN.{length, get_or, drop, length-drop}
-use lib.Seq.{get_or-drop, length-take-le}
+use lib.ListN.{length, get_or, take, drop, length-drop}
+use lib.Seq.{get_or-drop, drop-drop}
 use Rattle.papers.specs.declared.Paper.{Paper}
-use Rattle.papers.specs.declared.FieldRead.TheVariants.{Content, Refused}
-use Rattle.papers.specs.Outcome.{accepted, refusal, check}
+use Rattle.papers.specs.declared.Fault.{Fault}
+use Rattle.papers.specs.declared.Fault.TheVariants.{Cut, StrayField, Misfit, Overfull}
+use Rattle.std.specs.Prelude.{Ok, Err}
+use Rattle.papers.specs.Outcome.{accepted, refused, refusal, check}
+use Rattle.papers.specs.Told.{fault_number, check_told}
 use Rattle.papers.specs.Field.{number, size_of, content_of, length_allowed, field_fault, read_field}
-use Rattle.papers.specs.Answers.{field_answer}
-use Rattle.papers.proofs.Checks.{passing_refuses}
 use Rattle.papers.proofs.FieldLaws.{faultless}
+use Rattle.papers.proofs.ReadersGot.{failed_refuses}
 
 -- What stands at a place is the first byte from there on.
 pub tag_there : (place : ℕ) (bytes : List ℕ) → get_or (drop place bytes) 0 0 ≡ get_or bytes place 0
@@ -36,18 +38,18 @@ module _ (tag : ℕ) (full : Bool) (place : ℕ) (bytes : List ℕ) where
   abbrev left : ℕ
   left = length bytes - place
 
-  pub fault_cut : left < 3 → 1 ≡ fault
-  unfolding field_fault
+  pub fault_cut : left < 3 → check_told (Err Cut) ≡ fault
+  unfolding field_fault check_told
   fault_cut h = rw (length-drop place bytes, lt-leb 3 left h)
 
   module _ (heading : 3 ≤ left) where
-    pub fault_stray : (get_or bytes place 0 ≡ tag → ⊥) → 2 ≡ fault
-    unfolding field_fault
+    pub fault_stray : (get_or bytes place 0 ≡ tag → ⊥) → check_told (Err StrayField) ≡ fault
+    unfolding field_fault check_told
     fault_stray h = rw (length-drop place bytes, le-leb 3 left heading, tag_there place bytes, ne_eqb (get_or bytes place 0) tag h)
 
     module _ (tagged : get_or bytes place 0 ≡ tag) where
-      pub fault_full : full ≡ true → 9 ≡ fault
-      unfolding field_fault
+      pub fault_full : full ≡ true → check_told (Err Overfull) ≡ fault
+      unfolding field_fault check_told
       fault_full h = rw (length-drop place bytes, le-leb 3 left heading, tag_there place bytes, eq-eqb (get_or bytes place 0) tag tagged, h)
 
       module _ (room : full ≡ false) {size : ℕ} (is : size ≡ number (get_or bytes (place + 1) 0) (get_or bytes (place + 1 + 1) 0)) where
@@ -58,31 +60,42 @@ module _ (tag : ℕ) (full : Bool) (place : ℕ) (bytes : List ℕ) where
             let sized : size_of (drop place bytes) ≡ size = size_there place bytes ∙ sym is in
             rw (length-drop place bytes, le-leb 3 left heading, tag_there place bytes, eq-eqb (get_or bytes place 0) tag tagged, room, sized)
 
-        pub fault_misfit : length_allowed tag size ≡ false → 3 ≡ fault
+        pub fault_misfit : length_allowed tag size ≡ false → check_told (Err Misfit) ≡ fault
+        unfolding check_told
         fault_misfit h = rw (by_size, h)
 
-        pub fault_short : length_allowed tag size ≡ true → left - 3 < size → 1 ≡ fault
+        pub fault_short : length_allowed tag size ≡ true → left - 3 < size → check_told (Err Cut) ≡ fault
+        unfolding check_told
         fault_short a h = rw (by_size, a, lt-leb (3 + size) left (omega arith))
 
-        pub fault_none : length_allowed tag size ≡ true → size ≤ left - 3 → 0 ≡ fault
+        pub fault_none : length_allowed tag size ≡ true → size ≤ left - 3 → check_told (Ok tt) ≡ fault
+        unfolding check_told
         fault_none a h = rw (by_size, a, le-leb (3 + size) left (omega arith))
 
 -- ---- the answer for a field
 
-module _ (paper : Paper) (tag : ℕ) (full : Bool) (place : ℕ) (bytes : List ℕ) {fault : ℕ} (is : fault ≡ field_fault tag full (drop place bytes)) where
-  pub field_refused : (fault ≡ 0 → ⊥) → Refused (refusal fault paper place) ≡ field_answer place (read_field paper tag full place bytes)
+module _ (paper : Paper) (tag : ℕ) (full : Bool) (place : ℕ) (bytes : List ℕ) where
+  pub field_refused : (f : Fault) → field_fault tag full (drop place bytes) ≡ fault_number f
+      → read_field paper tag full place bytes ≡ refused (refusal (fault_number f) paper place)
   unfolding read_field
-  field_refused h = rw (← is, passing_refuses fault paper place (accepted (content_of (drop place bytes))) h)
+  field_refused f e = failed_refuses f paper place (accepted (content_of (drop place bytes))) e
 
-  module _ (none : fault ≡ 0) where
+  module _ (none : field_fault tag full (drop place bytes) ≡ 0) where
     -- A heading stands there.
     pub field_heading : place + 2 < length bytes
-    field_heading = let f = (faultless tag full (drop place bytes) (sym is ∙ none)).0 in omega (arith, length-drop place bytes)
+    field_heading = let f = (faultless tag full (drop place bytes) none).0 in omega (arith, length-drop place bytes)
 
-    pub field_content : {size : ℕ} → size ≡ number (get_or bytes (place + 1) 0) (get_or bytes (place + 1 + 1) 0)
-        → Content (place + 3) (place + 3 + size) ≡ field_answer place (read_field paper tag full place bytes)
-    unfolding read_field content_of
-    field_content {size} e =
-        let s : size_of (drop place bytes) ≡ size = size_there place bytes ∙ sym e in
-        let f : 3 + size_of (drop place bytes) ≤ length (drop place bytes) = (faultless tag full (drop place bytes) (sym is ∙ none)).1.1.1.1 in
-        rw (← is, none, s, length-take-le size (drop 3 (drop place bytes)) (omega (arith, length-drop 3 (drop place bytes))))
+    module _ {size : ℕ} (sized : size ≡ number (get_or bytes (place + 1) 0) (get_or bytes (place + 1 + 1) 0)) where
+      size_is : size_of (drop place bytes) ≡ size
+      size_is = size_there place bytes ∙ sym sized
+
+      pub field_within : place + 3 + size ≤ length bytes
+      field_within =
+          let f : 3 + size_of (drop place bytes) ≤ length (drop place bytes) = (faultless tag full (drop place bytes) none).1.1.1.1 in
+          let s = size_is in
+          let h = field_heading in
+          omega (arith, length-drop place bytes)
+
+      pub field_content : read_field paper tag full place bytes ≡ accepted (take size (drop (place + 3) bytes))
+      unfolding read_field content_of
+      field_content = rw (none, size_is, drop-drop)

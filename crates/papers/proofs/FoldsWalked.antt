@@ -7,12 +7,12 @@ use native.Mathlib.Omega.{arith}
 use lib.ListN.{length, get_or, take, drop, length-drop}
 use lib.Seq.{length-take-le}
 use Rattle.papers.specs.declared.Contents.{Contents}
-use Rattle.papers.specs.declared.FileRead.TheVariants.{Accepted}
 use Rattle.papers.specs.Program.{Rule, all_rules, rule_at}
 use Rattle.papers.specs.Outcome.{accepted}
 use Rattle.papers.specs.Field.{number, numbers, size_of}
 use Rattle.papers.specs.Reading.{read_file, program_in}
-use Rattle.papers.specs.Answers.{file_answer}
+use Rattle.papers.specs.Answers.{contents_of}
+use Rattle.papers.specs.Told.{tells, read_told}
 use Rattle.papers.specs.Places.{field_numbers, fold_place, Walked, BodyOf}
 use Rattle.papers.specs.Valid.{Valid}
 use Rattle.papers.proofs.NumberLaws.{Bytes}
@@ -21,7 +21,7 @@ use Rattle.papers.proofs.FoldLaws.{abducibles_content, abducibles_within, fold_c
 use Rattle.papers.proofs.RuleLaws.{rules_count, rule_fitting, integrity_head, head_within, BodyAt, rule_part, integrity_part, rule_head}
 use Rattle.papers.proofs.FileFacts.{told, program_valid, atoms_are, abducibles_are}
 
-module _ (bytes : List ℕ) (contents : Contents) (answer : file_answer (read_file bytes) ≡ Accepted contents) where
+module _ (bytes : List ℕ) (contents : Contents) (answer : read_told contents_of (read_file bytes) ≡ tells contents) where
   pub folds_counted : contents.rules.count + contents.integrity.count ≡ length (field_numbers (program_in bytes))
   folds_counted =
       let t = told bytes contents answer in

@@ -9,9 +9,8 @@ use lib.Dec.{eqb}
 use lib.ListN.{length, get_or, drop}
 use Rattle.papers.specs.declared.Paper.{Paper}
 use Rattle.papers.specs.declared.Paper.TheVariants.{File, Sheet}
-use Rattle.papers.specs.declared.Refusal.{Refusal}
 use Rattle.papers.specs.Program.{Program, Query}
-use Rattle.papers.specs.Outcome.{Outcome, accepted, refused, refusal, check, passing, and_then}
+use Rattle.papers.specs.Outcome.{Refusal, Outcome, accepted, refused, refusal, check, passing, and_then}
 use Rattle.papers.specs.Field.{numbers, content_of, field_fault, read_field}
 use Rattle.papers.specs.Content.{edition_fault, atoms_fault, abducibles_fault, literals_fault, body_fault}
 use Rattle.papers.specs.Reading.{read_edition, read_atoms, read_abducibles, first_rule, one_more, read_run, read_end, read_rules, read_file}

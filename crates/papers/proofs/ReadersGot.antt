@@ -1,119 +1,81 @@
--- What `let .. else` finds of the other readers' answers: what was accepted, or the refusal.
+-- What a caller knows of a read: what was accepted, or the refusal; and back, as a reader comes to tell it.
 -- Assumes nothing.
 use mathlib.Core.Path.{◌≡◌, refl, sym, ap, ◌∙◌}
 use mathlib.Core.Bool.{true≢false}
-use mathlib.Core.List.{List}
-use Prim.Native.Nat.{ℕ, ◌+◌}
-use native.Mathlib.Omega.{arith}
-use lib.ListN.{length}
-use Rattle.papers.specs.declared.Refusal.{Refusal}
-use Rattle.papers.specs.declared.Contents.{Contents}
-use Rattle.papers.specs.declared.NumberRead.{NumberRead}
-use Rattle.papers.specs.declared.NumberRead.TheVariants as number
-use Rattle.papers.specs.declared.RunRead.{RunRead}
-use Rattle.papers.specs.declared.RunRead.TheVariants as run
-use Rattle.papers.specs.declared.FileRead.{FileRead}
-use Rattle.papers.specs.declared.FileRead.TheVariants as file
-use Rattle.papers.specs.declared.PapersRead.{PapersRead}
-use Rattle.papers.specs.declared.PapersRead.TheVariants as papers
-use Rattle.papers.specs.Program.{Program}
-use Rattle.papers.specs.Outcome.{Outcome, accepted, refused}
-use Rattle.papers.specs.Reading.{Run, Papers}
-use Rattle.papers.specs.Answers.{number_answer, count_answer, run_answer, contents_of, file_answer, papers_answer}
+use Prim.Native.Nat.{ℕ}
+use Rattle.std.specs.Prelude.{Ok, Err}
+use Rattle.std.specs.declared.result.Result.{Result}
+use Rattle.papers.specs.declared.Paper.{Paper}
+use Rattle.papers.specs.declared.Fault.{Fault}
+use Rattle.papers.specs.declared.Refusal as declared
+use Rattle.papers.specs.Outcome.{Refusal, Outcome, accepted, refused, refusal, passing}
+use Rattle.papers.specs.Told.{tells, refused_at, fault_number, refusal_of, check_told, refusal_told, read_told, value_told}
+use Rattle.papers.proofs.Checks.{passing_refuses}
+use Rattle.papers.proofs.ToldLaws.{fault_not_0}
 
--- ---- a number
+-- What was accepted, by what is told of it.
+pub record Read {A B : Type 0} (values : A → B) (o : Outcome A) (told : B) : Type 0 where
+  pub value : A
+  pub is : o ≡ accepted value
+  pub tells_it : values value ≡ told
 
-module _ (o : Outcome ℕ) {got : NumberRead} (is : got ≡ number_answer o) where
-  pub number_accepted : {v : ℕ} → got ≡ number.Number v → o ≡ accepted v
-  number_accepted {v} e = by o (sym is ∙ e) where
-    by : (x : Outcome ℕ) → number_answer x ≡ number.Number v → x ≡ accepted v
-    by (accepted n) h = let z : n ≡ v = cc in ap accepted z
-    by (refused r) h = absurd (true≢false cc)
+-- ---- of what is told
 
-  pub number_refused : {r : Refusal} → got ≡ number.Refused r → o ≡ refused r
-  number_refused {r} e = by o (sym is ∙ e) where
-    by : (x : Outcome ℕ) → number_answer x ≡ number.Refused r → x ≡ refused r
-    by (accepted n) h = absurd (true≢false cc)
-    by (refused q) h = let z : q ≡ r = cc in ap refused z
-
--- ---- a list, of which the answer tells how long it is
-
-pub record Listed (o : Outcome (List ℕ)) (count : ℕ) : Type 0 where
-  pub list : List ℕ
-  pub is : o ≡ accepted list
-  pub size : length list ≡ count
-
-module _ (o : Outcome (List ℕ)) {got : NumberRead} (is : got ≡ count_answer o) where
-  pub count_accepted : {k : ℕ} → got ≡ number.Number k → Listed o k
-  count_accepted {k} e = by o refl (sym is ∙ e) where
-    by : (x : Outcome (List ℕ)) → o ≡ x → count_answer x ≡ number.Number k → Listed o k
-    by (accepted l) q h = record { list = l; is = q; size = cc }
+module _ {A B : Type 0} (values : A → B) (o : Outcome A) where
+  pub told_accepted : {b : B} → read_told values o ≡ tells b → Read values o b
+  unfolding read_told refusal_told
+  told_accepted {b} e = by o refl e where
+    by : (x : Outcome A) → o ≡ x → read_told values x ≡ tells b → Read values o b
+    by (accepted a) q h = record { value = a; is = q; tells_it = cc }
     by (refused r) q h = absurd (true≢false cc)
 
-  pub count_refused : {r : Refusal} → got ≡ number.Refused r → o ≡ refused r
-  count_refused {r} e = by o (sym is ∙ e) where
-    by : (x : Outcome (List ℕ)) → count_answer x ≡ number.Refused r → x ≡ refused r
-    by (accepted n) h = absurd (true≢false cc)
-    by (refused q) h = let z : q ≡ r = cc in ap refused z
+  pub told_refused : {r : Refusal} → read_told values o ≡ refusal_told r → o ≡ refused r
+  unfolding read_told refusal_told
+  told_refused {r} e = by o e where
+    by : (x : Outcome A) → read_told values x ≡ refused_at r.number r.paper r.place → x ≡ refused r
+    by (accepted a) h = absurd (true≢false cc)
+    by (refused q) h =
+        let number : q.number ≡ r.number = cc in
+        let paper : q.paper ≡ r.paper = cc in
+        let place : q.place ≡ r.place = cc in
+        λ i. refused (record { number = number i; paper = paper i; place = place i })
 
--- ---- a run
+  pub accepted_told : {b : B} → Read values o b → read_told values o ≡ tells b
+  unfolding read_told
+  accepted_told r = rw r.is (ap tells r.tells_it)
 
-pub record Ran (o : Outcome Run) (count next : ℕ) : Type 0 where
-  pub run : Run
-  pub is : o ≡ accepted run
-  pub size : length (run).contents ≡ count
-  pub ends : (run).next ≡ next
+-- ---- of what a read answered
 
-module _ (o : Outcome Run) {got : RunRead} (is : got ≡ run_answer 0 o) where
-  pub run_accepted : {count next : ℕ} → got ≡ run.Run count next → Ran o count next
-  run_accepted {count} {next} e = by o refl (sym is ∙ e) where
-    by : (x : Outcome Run) → o ≡ x → run_answer 0 x ≡ run.Run count next → Ran o count next
-    by (accepted r) q h = let z : 0 + length r.contents ≡ count = cc in record { run = r; is = q; size = omega arith; ends = cc }
-    by (refused r) q h = absurd (true≢false cc)
+module _ {A B C : Type 0} (means : C → B) (values : A → B) (o : Outcome A) where
+  module _ {got : Result C declared.Refusal} (is : value_told means got ≡ read_told values o) where
+    pub got_accepted : {c : C} → got ≡ Ok c → Read values o (means c)
+    unfolding value_told
+    got_accepted e = told_accepted values o (sym is ∙ ap (value_told means) e)
 
-  pub run_not : {r : Refusal} → got ≡ run.Refused r → o ≡ refused r
-  run_not {r} e = by o (sym is ∙ e) where
-    by : (x : Outcome Run) → run_answer 0 x ≡ run.Refused r → x ≡ refused r
-    by (accepted n) h = absurd (true≢false cc)
-    by (refused q) h = let z : q ≡ r = cc in ap refused z
+    pub got_refused : {r : declared.Refusal} → got ≡ Err r → o ≡ refused (refusal_of r)
+    unfolding value_told
+    got_refused e = told_refused values o (sym is ∙ ap (value_told means) e)
 
--- ---- a file
+  pub ok_told : {c : C} → Read values o (means c) → value_told means (Ok c) ≡ read_told values o
+  unfolding value_told
+  ok_told r = sym (accepted_told values o r)
 
-pub record Filed (o : Outcome Program) (contents : Contents) : Type 0 where
-  pub program : Program
-  pub is : o ≡ accepted program
-  pub told : contents_of program ≡ contents
+  pub err_told : (r : declared.Refusal) → o ≡ refused (refusal_of r) → value_told means (Err r) ≡ read_told values o
+  unfolding value_told read_told
+  err_told r e = rw e
 
-module _ (o : Outcome Program) {got : FileRead} (is : got ≡ file_answer o) where
-  pub file_accepted : {contents : Contents} → got ≡ file.Accepted contents → Filed o contents
-  file_accepted {contents} e = by o refl (sym is ∙ e) where
-    by : (x : Outcome Program) → o ≡ x → file_answer x ≡ file.Accepted contents → Filed o contents
-    by (accepted p) q h = record { program = p; is = q; told = cc }
-    by (refused r) q h = absurd (true≢false cc)
+-- ---- of what a test answered
 
-  pub file_refused : {r : Refusal} → got ≡ file.Refused r → o ≡ refused r
-  file_refused {r} e = by o (sym is ∙ e) where
-    by : (x : Outcome Program) → file_answer x ≡ file.Refused r → x ≡ refused r
-    by (accepted n) h = absurd (true≢false cc)
-    by (refused q) h = let z : q ≡ r = cc in ap refused z
+module _ {got : Result (Unit {0}) Fault} {number : ℕ} (is : check_told got ≡ number) where
+  pub check_passed : got ≡ Ok tt → number ≡ 0
+  unfolding check_told
+  check_passed e = sym is ∙ ap check_told e
 
--- ---- both papers
+  pub check_failed : {f : Fault} → got ≡ Err f → number ≡ fault_number f
+  unfolding check_told
+  check_failed e = sym is ∙ ap check_told e
 
-pub record Paired (o : Outcome Papers) (contents : Contents) (literals : ℕ) : Type 0 where
-  pub papers : Papers
-  pub is : o ≡ accepted papers
-  pub told : contents_of (papers).program ≡ contents
-  pub size : length (papers).query ≡ literals
-
-module _ (o : Outcome Papers) {got : PapersRead} (is : got ≡ papers_answer o) where
-  pub papers_accepted : {contents : Contents} {literals : ℕ} → got ≡ papers.Accepted contents literals → Paired o contents literals
-  papers_accepted {contents} {literals} e = by o refl (sym is ∙ e) where
-    by : (x : Outcome Papers) → o ≡ x → papers_answer x ≡ papers.Accepted contents literals → Paired o contents literals
-    by (accepted p) q h = record { papers = p; is = q; told = cc; size = cc }
-    by (refused r) q h = absurd (true≢false cc)
-
-  pub papers_refused : {r : Refusal} → got ≡ papers.Refused r → o ≡ refused r
-  papers_refused {r} e = by o (sym is ∙ e) where
-    by : (x : Outcome Papers) → papers_answer x ≡ papers.Refused r → x ≡ refused r
-    by (accepted n) h = absurd (true≢false cc)
-    by (refused q) h = let z : q ≡ r = cc in ap refused z
+-- A test that failed refuses, at the place that it is told with.
+pub failed_refuses : {A : Type 0} {number : ℕ} (f : Fault) (paper : Paper) (place : ℕ) (next : Outcome A) → number ≡ fault_number f
+    → passing number paper place next ≡ refused (refusal (fault_number f) paper place)
+failed_refuses f paper place next e = rw e (passing_refuses (fault_number f) paper place next (fault_not_0 f))

@@ -3,20 +3,18 @@
 use mathlib.Core.Path.{◌≡◌, refl, sym, ap, ◌∙◌}
 use mathlib.Core.Bool.{cond}
 use Prim.Native.Nat.{ℕ}
+use native.Mathlib.Omega.{arith}
 use lib.Dec.{eqb}
+use Rattle.std.specs.Prelude.{Ok, Err}
+use Rattle.std.specs.declared.result.Result.{Result}
+use Rattle.papers.specs.declared.Paper.{Paper}
 use Rattle.papers.specs.declared.Paper.TheVariants.{File}
+use Rattle.papers.specs.declared.Fault.{Fault}
+use Rattle.papers.specs.declared.Fault.TheVariants as fault
+use Rattle.papers.specs.declared.Refusal as declared
 use Rattle.papers.specs.declared.Bare.{Bare}
 use Rattle.papers.specs.declared.Bare.TheVariants.{ShortDual, ShortModel, NoScenario, SpoiltSearch, SharedBit, UnlistedBit}
-use Rattle.papers.specs.declared.Contents.{Contents}
-use Rattle.papers.specs.declared.FileRead.{FileRead}
-use Rattle.papers.specs.declared.FileRead.TheVariants as file
-use Rattle.papers.specs.declared.PapersRead.{PapersRead}
-use Rattle.papers.specs.declared.PapersRead.TheVariants as papers
-use Rattle.papers.specs.Program.{Program}
-use Rattle.papers.specs.Outcome.{Outcome, accepted, refused, refusal}
-use Rattle.papers.specs.Reading.{Papers}
-use Rattle.papers.specs.Answers.{contents_of, file_answer, papers_answer}
-use Rattle.papers.specs.Told.{Told, tells, refused_by, refused_at, bare_number, refusal_told, read_told, file_told, papers_of, papers_told}
+use Rattle.papers.specs.Told.{Told, tells, refused_by, refused_at, fault_number, bare_number, refusal_told, value_told, result_told}
 
 -- ---- any answer: what is told fixes it where it is found again from that
 
@@ -26,6 +24,48 @@ module _ {R X : Type 0} (told : R → X) (from : X → R) (found : (r : R) → f
 
   pub told_fixes : {r s : R} → told r ≡ told s → r ≡ s
   told_fixes {r} {s} e = told_of e ∙ found s
+
+-- ---- a refusal that names a paper: no two have one number
+
+abbrev pub fault_from : ℕ → Fault
+fault_from n =
+    cond (eqb n 1) fault.Cut
+    (cond (eqb n 2) fault.StrayField
+    (cond (eqb n 3) fault.Misfit
+    (cond (eqb n 4) fault.Edition
+    (cond (eqb n 5) fault.AtomCount
+    (cond (eqb n 6) fault.Unlisted
+    (cond (eqb n 7) fault.Disorder
+    (cond (eqb n 8) fault.FixedFault
+    (cond (eqb n 9) fault.Overfull fault.Tail))))))))
+
+pub fault_from_lem : (f : Fault) → fault_from (fault_number f) ≡ f
+fault_from_lem fault.Cut = refl
+fault_from_lem fault.StrayField = refl
+fault_from_lem fault.Misfit = refl
+fault_from_lem fault.Edition = refl
+fault_from_lem fault.AtomCount = refl
+fault_from_lem fault.Unlisted = refl
+fault_from_lem fault.Disorder = refl
+fault_from_lem fault.FixedFault = refl
+fault_from_lem fault.Overfull = refl
+fault_from_lem fault.Tail = refl
+
+pub fault_fixed : {f g : Fault} → fault_number f ≡ fault_number g → f ≡ g
+fault_fixed = told_fixes fault_number fault_from fault_from_lem
+
+-- None is 0, by which checks pass.
+pub fault_not_0 : (f : Fault) → fault_number f ≡ 0 → ⊥
+fault_not_0 fault.Cut e = omega arith
+fault_not_0 fault.StrayField e = omega arith
+fault_not_0 fault.Misfit e = omega arith
+fault_not_0 fault.Edition e = omega arith
+fault_not_0 fault.AtomCount e = omega arith
+fault_not_0 fault.Unlisted e = omega arith
+fault_not_0 fault.Disorder e = omega arith
+fault_not_0 fault.FixedFault e = omega arith
+fault_not_0 fault.Overfull e = omega arith
+fault_not_0 fault.Tail e = omega arith
 
 -- ---- a refusal that names no paper: no two have one number
 
@@ -45,63 +85,23 @@ bare_from_lem SpoiltSearch = refl
 bare_from_lem SharedBit = refl
 bare_from_lem UnlistedBit = refl
 
--- ---- a file
+-- ---- what a call answers, as the file's reading, or that of both papers
 
--- Reading is refused under no other number: that case is of no use.
-abbrev file_from : Told Contents → FileRead
-file_from (tells contents) = file.Accepted contents
-file_from (refused_by n) = file.Refused (refusal n File 0)
-file_from (refused_at n paper place) = file.Refused (refusal n paper place)
+-- The refusal with a number, a paper and a place.
+abbrev pub refused_with : ℕ → Paper → ℕ → declared.Refusal
+refused_with n paper place = record { fault = fault_from n; paper = paper; place = place }
 
-pub file_from_lem : (r : FileRead) → file_from (file_told r) ≡ r
-unfolding file_told refusal_told
-file_from_lem (file.Accepted contents) = refl
-file_from_lem (file.Refused r) = refl
+module _ {A : Type 0} where
+  -- Reading is refused under no other number: that case is of no use.
+  abbrev pub result_from : Told A → Result A declared.Refusal
+  result_from (tells a) = Ok a
+  result_from (refused_by n) = Err (refused_with n File 0)
+  result_from (refused_at n paper place) = Err (refused_with n paper place)
 
-pub file_fixed : {r s : FileRead} → file_told r ≡ file_told s → r ≡ s
-file_fixed = told_fixes file_told file_from file_from_lem
+  pub result_from_lem : (r : Result A declared.Refusal) → result_from (result_told r) ≡ r
+  unfolding value_told refusal_told
+  result_from_lem (Ok a) = refl
+  result_from_lem (Err r) = ap (λ (f : Fault). Err (record { fault = f; paper = r.paper; place = r.place })) (fault_from_lem r.fault)
 
-file_back : (o : Outcome Program) → file_from (read_told contents_of o) ≡ file_answer o
-unfolding read_told refusal_told
-file_back (accepted p) = refl
-file_back (refused r) = refl
-
--- What `read_file` ensures, as its callers take it apart.
-pub file_told_lem : {r : FileRead} (o : Outcome Program) → file_told r ≡ read_told contents_of o → r ≡ file_answer o
-file_told_lem o e = told_of file_told file_from file_from_lem e ∙ file_back o
-
--- As it comes to ensure it.
-pub file_tells : {r : FileRead} (o : Outcome Program) → r ≡ file_answer o → file_told r ≡ read_told contents_of o
-unfolding file_told read_told
-file_tells (accepted p) e = ap file_told e
-file_tells (refused r) e = ap file_told e
-
--- ---- both papers
-
-abbrev papers_from : Told (Contents × ℕ) → PapersRead
-papers_from (tells both) = papers.Accepted both.0 both.1
-papers_from (refused_by n) = papers.Refused (refusal n File 0)
-papers_from (refused_at n paper place) = papers.Refused (refusal n paper place)
-
-pub papers_from_lem : (r : PapersRead) → papers_from (papers_told r) ≡ r
-unfolding papers_told refusal_told
-papers_from_lem (papers.Accepted contents literals) = refl
-papers_from_lem (papers.Refused r) = refl
-
-pub papers_fixed : {r s : PapersRead} → papers_told r ≡ papers_told s → r ≡ s
-papers_fixed = told_fixes papers_told papers_from papers_from_lem
-
-papers_back : (o : Outcome Papers) → papers_from (read_told papers_of o) ≡ papers_answer o
-unfolding read_told refusal_told
-papers_back (accepted p) = refl
-papers_back (refused r) = refl
-
--- What `read_papers` ensures, as its callers take it apart.
-pub papers_told_lem : {r : PapersRead} (o : Outcome Papers) → papers_told r ≡ read_told papers_of o → r ≡ papers_answer o
-papers_told_lem o e = told_of papers_told papers_from papers_from_lem e ∙ papers_back o
-
--- As it comes to ensure it.
-pub papers_tells : {r : PapersRead} (o : Outcome Papers) → r ≡ papers_answer o → papers_told r ≡ read_told papers_of o
-unfolding papers_told read_told
-papers_tells (accepted p) e = ap papers_told e
-papers_tells (refused r) e = ap papers_told e
+  pub result_fixed : {r s : Result A declared.Refusal} → result_told r ≡ result_told s → r ≡ s
+  result_fixed = told_fixes result_told result_from result_from_lem

@@ -5,39 +5,15 @@ use Rattle.std.specs.Borrow.{Bor}
 use Rattle.papers.specs.declared.Paper.{Paper}
 use Rattle.papers.specs.declared.Paper.TheVariants.{File, Sheet}
 use Rattle.papers.specs.declared.Contents.{Contents}
-use Rattle.papers.specs.declared.FieldRead.{FieldRead}
-use Rattle.papers.specs.declared.FieldRead.TheVariants as field
-use Rattle.papers.specs.declared.NumberRead.{NumberRead}
-use Rattle.papers.specs.declared.NumberRead.TheVariants as number
-use Rattle.papers.specs.declared.RunRead.{RunRead}
-use Rattle.papers.specs.declared.RunRead.TheVariants as run
-use Rattle.papers.specs.declared.FileRead.{FileRead}
-use Rattle.papers.specs.declared.FileRead.TheVariants as file
-use Rattle.papers.specs.declared.PapersRead.{PapersRead}
-use Rattle.papers.specs.declared.PapersRead.TheVariants as papers
+use Rattle.papers.specs.declared.Run as declared
 use Rattle.papers.specs.Program.{Program}
 use Rattle.papers.specs.Outcome.{Outcome, accepted, refused}
 use Rattle.papers.specs.Encoding.{rule_numbers}
-use Rattle.papers.specs.Reading.{Run, Papers, first_rule}
-
--- A field that was read, by where its content starts and ends.
-abbrev pub field_answer : ℕ → Outcome (List ℕ) → FieldRead
-field_answer place (accepted content) = field.Content (place + 3) (place + 3 + length content)
-field_answer place (refused r) = field.Refused r
-
-abbrev pub number_answer : Outcome ℕ → NumberRead
-number_answer (accepted n) = number.Number n
-number_answer (refused r) = number.Refused r
-
--- A list of numbers that was read, by how many they are.
-abbrev pub count_answer : Outcome (List ℕ) → NumberRead
-count_answer (accepted l) = number.Number (length l)
-count_answer (refused r) = number.Refused r
+use Rattle.papers.specs.Reading.{Run, first_rule}
 
 -- Fields that were read after `before` others, by how many there are now and the place after them.
-abbrev pub run_answer : ℕ → Outcome Run → RunRead
-run_answer before (accepted r) = run.Run (before + length r.contents) r.next
-run_answer before (refused r) = run.Refused r
+abbrev pub run_of : ℕ → Run → declared.Run
+run_of before r = record { count = before + length r.contents; next = r.next }
 
 -- The bytes of fields of one tag, each given by its numbers: 3 for the heading and 2 for each number.
 unfoldable pub fields_length : List (List ℕ) → ℕ
@@ -63,14 +39,6 @@ contents_of p = record {
   integrity = record { count = length p.integrity; place = integrity_place p };
   end = end_place p;
 }
-
-abbrev pub file_answer : Outcome Program → FileRead
-file_answer (accepted p) = file.Accepted (contents_of p)
-file_answer (refused r) = file.Refused r
-
-abbrev pub papers_answer : Outcome Papers → PapersRead
-papers_answer (accepted p) = papers.Accepted (contents_of p.program) (length p.query)
-papers_answer (refused r) = papers.Refused r
 
 -- One of two papers.
 abbrev pub paper_of : {A : Type 0} → Paper → A → A → A

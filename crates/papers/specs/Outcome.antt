@@ -1,13 +1,17 @@
 -- What a reader answers: what it accepted, or the refusal; and the fixed order of checks as a way to write definitions.
 use Rattle.std.specs.Prelude.{Bool, true, false, ℕ, zero, suc}
 use Rattle.papers.specs.declared.Paper.{Paper}
-use Rattle.papers.specs.declared.Refusal.{Refusal}
+
+-- "A refusal carries the number; 1 to 10 name the paper (file or sheet) and the place."
+pub record Refusal : Type 0 where
+  pub number : ℕ
+  pub paper : Paper
+  pub place : ℕ
 
 pub data Outcome (A : Type 0) : Type 0 where
   accepted : A → Outcome A
   refused : Refusal → Outcome A
 
--- "A refusal carries the number; 1 to 10 name the paper (file or sheet) and the place."
 abbrev pub refusal : ℕ → Paper → ℕ → Refusal
 refusal number paper place = record { number = number; paper = paper; place = place }
 

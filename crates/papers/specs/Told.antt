@@ -1,17 +1,41 @@
 -- Answers in the papers' numbers and values: "a definition gives this paper's number and values for each of its cases".
-use Rattle.std.specs.Prelude.{ℕ, length}
+use Rattle.std.specs.Prelude.{ℕ, length, Ok, Err}
+use Rattle.std.specs.declared.result.Result.{Result}
 use Rattle.papers.specs.declared.Paper.{Paper}
-use Rattle.papers.specs.declared.Refusal.{Refusal}
+use Rattle.papers.specs.declared.Fault.{Fault}
+use Rattle.papers.specs.declared.Fault.TheVariants as fault
+use Rattle.papers.specs.declared.Refusal as declared
 use Rattle.papers.specs.declared.Bare.{Bare}
 use Rattle.papers.specs.declared.Bare.TheVariants.{ShortDual, ShortModel, NoScenario, SpoiltSearch, SharedBit, UnlistedBit}
 use Rattle.papers.specs.declared.Contents.{Contents}
-use Rattle.papers.specs.declared.FileRead.{FileRead}
-use Rattle.papers.specs.declared.FileRead.TheVariants as file
-use Rattle.papers.specs.declared.PapersRead.{PapersRead}
-use Rattle.papers.specs.declared.PapersRead.TheVariants as papers
-use Rattle.papers.specs.Outcome.{Outcome, accepted, refused}
+use Rattle.papers.specs.Outcome.{Refusal, Outcome, accepted, refused, refusal}
 use Rattle.papers.specs.Reading.{Papers}
 use Rattle.papers.specs.Answers.{contents_of}
+
+-- 1, cut: "the bytes end inside a field or before 7F". 2, stray field: "unknown or not allowed there". 3, misfit: "length not allowed for
+-- the tag". 4, edition: "value is not 1". 5, atom count: "0 or above 256". 6, unlisted: a number that may not stand there. 7, disorder: an
+-- abducible not above the one before. 8, fixed fault: "a head is an abducible or its negation". 9, overfull: rule 1,025 or integrity rule
+-- 257. 10, tail: "bytes follow 7F".
+abbrev pub fault_number : Fault → ℕ
+fault_number fault.Cut = 1
+fault_number fault.StrayField = 2
+fault_number fault.Misfit = 3
+fault_number fault.Edition = 4
+fault_number fault.AtomCount = 5
+fault_number fault.Unlisted = 6
+fault_number fault.Disorder = 7
+fault_number fault.FixedFault = 8
+fault_number fault.Overfull = 9
+fault_number fault.Tail = 10
+
+-- A refusal by its number.
+abbrev pub refusal_of : declared.Refusal → Refusal
+refusal_of r = refusal (fault_number r.fault) r.paper r.place
+
+-- The number of the check that failed, and 0 where none did.
+unfoldable pub check_told : Result Unit Fault → ℕ
+check_told (Ok passed) = 0
+check_told (Err f) = fault_number f
 
 -- 11, short dual: "lent dual buffer shorter than the dual". 12, short model: "lent model buffer shorter than N". 13, no scenario: "number
 -- not below 3^k". 14, spoilt search: "position above 3^k, found above list length, or the first found entries not strictly rising or not
@@ -48,15 +72,14 @@ unfoldable pub read_told : {A B : Type 0} → (A → B) → Outcome A → Told B
 read_told values (accepted a) = tells (values a)
 read_told values (refused r) = refusal_told r
 
--- Reading the file tells its counts and the places of its fields.
-unfoldable pub file_told : FileRead → Told Contents
-file_told (file.Accepted contents) = tells contents
-file_told (file.Refused r) = refusal_told r
+-- What a call's answer tells, by what its value stands for; and where the value stands for itself.
+unfoldable pub value_told : {A B : Type 0} → (A → B) → Result A declared.Refusal → Told B
+value_told means (Ok a) = tells (means a)
+value_told means (Err r) = refusal_told (refusal_of r)
 
--- Reading both papers tells also how many literals the query has.
+abbrev pub result_told : {A : Type 0} → Result A declared.Refusal → Told A
+result_told = value_told (λ a. a)
+
+-- Reading both papers tells the file's counts and places, and how many literals the query has.
 abbrev pub papers_of : Papers → Contents × ℕ
 papers_of p = (contents_of p.program, length p.query)
-
-unfoldable pub papers_told : PapersRead → Told (Contents × ℕ)
-papers_told (papers.Accepted contents literals) = tells (contents, literals)
-papers_told (papers.Refused r) = refusal_told r

@@ -3,24 +3,68 @@
 #![tactic(auto)]
 
 ghost use Rattle.std.specs.Prelude.{◌≡◌};
-ghost use Rattle.papers.specs.Told.{bare_number};
+ghost use Rattle.papers.specs.Told.{fault_number, bare_number};
 
-#[derive(Clone, Copy)]
+#[derive(Clone, Copy, PartialEq, Eq, Debug)]
 pub enum Paper {
     File,
     Sheet,
 }
 
-// Document 01's refusals 1 to 10.
-#[derive(Clone, Copy)]
+// Document 01's refusals 1 to 10, each of which names a paper and a place.
+#[derive(Clone, Copy, PartialEq, Eq, Debug)]
+pub enum Fault {
+    Cut,
+    StrayField,
+    Misfit,
+    Edition,
+    AtomCount,
+    Unlisted,
+    Disorder,
+    FixedFault,
+    Overfull,
+    Tail,
+}
+
+impl Fault {
+    // Its number in document 01.
+    pub fn number(self) -> u8
+        ensures { result ≡ fault_number self }
+    {
+        match self {
+            Fault::Cut => 1,
+            Fault::StrayField => 2,
+            Fault::Misfit => 3,
+            Fault::Edition => 4,
+            Fault::AtomCount => 5,
+            Fault::Unlisted => 6,
+            Fault::Disorder => 7,
+            Fault::FixedFault => 8,
+            Fault::Overfull => 9,
+            Fault::Tail => 10,
+        }
+    }
+
+    pub fn at(self, paper: Paper, place: usize) -> Refusal
+        ensures { result ≡ record { fault = self; paper = paper; place = place } }
+    {
+        Refusal {
+            fault: self,
+            paper,
+            place,
+        }
+    }
+}
+
+#[derive(Clone, Copy, PartialEq, Eq, Debug)]
 pub struct Refusal {
-    pub number: u8,
+    pub fault: Fault,
     pub paper: Paper,
     pub place: usize,
 }
 
 // The papers' refusals that name no paper and no place.
-#[derive(Clone, Copy)]
+#[derive(Clone, Copy, PartialEq, Eq, Debug)]
 pub enum Bare {
     ShortDual,
     ShortModel,
@@ -30,67 +74,42 @@ pub enum Bare {
     UnlistedBit,
 }
 
-// Their numbers.
-pub fn bare_number(bare: Bare) -> u8
-    ensures { result ≡ bare_number bare }
-{
-    match bare {
-        Bare::ShortDual => 11,
-        Bare::ShortModel => 12,
-        Bare::NoScenario => 13,
-        Bare::SpoiltSearch => 14,
-        Bare::SharedBit => 15,
-        Bare::UnlistedBit => 16,
+impl Bare {
+    // Its number in the papers.
+    pub fn number(self) -> u8
+        ensures { result ≡ bare_number self }
+    {
+        match self {
+            Bare::ShortDual => 11,
+            Bare::ShortModel => 12,
+            Bare::NoScenario => 13,
+            Bare::SpoiltSearch => 14,
+            Bare::SharedBit => 15,
+            Bare::UnlistedBit => 16,
+        }
     }
 }
 
-// A field that was read: where its content starts and ends.
-#[derive(Clone, Copy)]
-pub enum FieldRead {
-    Content { start: usize, end: usize },
-    Refused(Refusal),
-}
-
-// A number that was read.
-#[derive(Clone, Copy)]
-pub enum NumberRead {
-    Number(usize),
-    Refused(Refusal),
-}
-
 // Fields of one tag that were read: how many, and the place after them.
-#[derive(Clone, Copy)]
-pub enum RunRead {
-    Run { count: usize, next: usize },
-    Refused(Refusal),
+#[derive(Clone, Copy, Debug)]
+pub struct Run {
+    pub count: usize,
+    pub next: usize,
 }
 
 // Fields of one tag in an accepted file: how many, and the place of the first.
-#[derive(Clone, Copy)]
+#[derive(Clone, Copy, Debug)]
 pub struct Fields {
     pub count: usize,
     pub place: usize,
 }
 
 // An accepted file. Its abducibles' field is at place 9, their numbers from place 12 on.
-#[derive(Clone, Copy)]
+#[derive(Clone, Copy, Debug)]
 pub struct Contents {
     pub atoms: u16,
     pub abducibles: usize,
     pub rules: Fields,
     pub integrity: Fields,
     pub end: usize,
-}
-
-#[derive(Clone, Copy)]
-pub enum FileRead {
-    Accepted(Contents),
-    Refused(Refusal),
-}
-
-// Both papers accepted: the file, and how many literals the query has, from place 3 of the sheet on.
-#[derive(Clone, Copy)]
-pub enum PapersRead {
-    Accepted(Contents, usize),
-    Refused(Refusal),
 }
