@@ -1,6 +1,8 @@
 -- Parts of the visits to rows: what can be settled for itself, since no row up to its end asks for what comes after it.
 use Rattle.std.specs.Prelude.{◌≡◌, Bool, true, false, List, map, ℕ, ◌+◌, ◌-◌, ◌*◌, ◌%◌, ◌≤◌, ◌<◌, leb, length, get_or}
 use Rattle.arrays.specs.Staying.{StaysFrom}
+use Rattle.parts.specs.declared.RowKind.{RowKind}
+use Rattle.parts.specs.declared.RowKind.TheVariants.{Rule, Entry}
 
 -- ---- marks
 
@@ -24,6 +26,11 @@ pub record Marked (count : ℕ) (before after : List ℕ) : Type 0 where
   pub stays : StaysFrom count before after
 
 -- ---- parts
+
+-- The parity of the numbers by which rows of a kind ask.
+abbrev pub parity : RowKind → ℕ
+parity Rule = 0
+parity Entry = 1
 
 -- A row is its head, how many numbers follow, and these. It asks for o by the number 2o, or by 2o + 1, as `by` says, 0 or 1.
 pub record Asks (by : ℕ) (numbers : List ℕ) (place o : ℕ) : Type 0 where

@@ -3,23 +3,47 @@
 #![tactic(auto)]
 
 ghost use Rattle.std.specs.Prelude.{◌≡◌, ◌≤◌, ◌<◌, length};
-ghost use Rattle.parts.specs.Parts.{place_of, ends_part, Unmarked, Marked, Parted, PartEnd};
+ghost use Rattle.parts.specs.Parts.{parity, place_of, ends_part, Unmarked, Marked, Parted, PartEnd};
 ghost use Rattle.parts.specs.Reaches.{Lasts, Within, RowReaches};
 
 use arrays::{get, put};
 
+// What is visited. A rule asks for o by the number 2o of o, an entry by the 2o + 1 of not(o).
+#[derive(Clone, Copy, PartialEq, Eq, Debug)]
+pub enum RowKind {
+    Rule,
+    Entry,
+}
+
+impl RowKind {
+    // The parity of the numbers that ask.
+    fn parity(self) -> usize
+        ensures { result ≡ parity self }
+    {
+        match self {
+            RowKind::Rule => 0,
+            RowKind::Entry => 1,
+        }
+    }
+}
+
+// What is added to a visit that a part ends with. The mark stands in the number itself, so that a pass reads a single array.
+const MARK: u16 = 32768;
+
 // Where the row of a visit starts.
+#[tactic(auto, unfolding(crate::specs::Parts::place_of))]
 pub fn place_of(visit: u16) -> usize
     ensures { result ≡ place_of visit }
 {
-    (visit % 32768) as usize
+    usize::from(visit % MARK)
 }
 
 // Whether a part ends with a visit.
+#[tactic(auto, unfolding(crate::specs::Parts::ends_part))]
 fn ends_part(visit: u16) -> bool
     ensures { result ≡ ends_part visit }
 {
-    32768 <= visit
+    MARK <= visit
 }
 
 // The end of the part that begins at a visit.
@@ -27,15 +51,10 @@ pub fn part_end(visits: &[u16], start: usize) -> usize
     requires { start < length visits.now }
     ensures { PartEnd visits.now start result }
 {
-    let count = visits.len();
-    let mut end = start + 1;
-    while end < count {
-        if ends_part(visits[end - 1]) {
-            return end;
-        }
-        end += 1;
+    match visits[start..].iter().position(|visit| ends_part(*visit)) {
+        Some(last) => start + last + 1,
+        None => visits.len(),
     }
-    end
 }
 
 // For each head the number of visits up to the last one to a row of that head.
@@ -43,47 +62,41 @@ fn find_lasts(numbers: &[u16], visits: &[u16], lasts: &mut [u16], count: usize)
     requires { (count ≤ 1280) × (count ≤ length visits.now) }
     ensures { Lasts count numbers.now visits.now lasts.new count }
 {
-    let mut done: usize = 0;
-    while done < count {
-        let head = get(numbers, place_of(visits[done]), 0);
-        done += 1;
-        put(lasts, head, done as u16);
+    for (i, visit) in visits[..count].iter().enumerate() {
+        let head = get(numbers, place_of(*visit), 0);
+        put(lasts, head, (i + 1) as u16);
     }
 }
 
 // How far a number asks, or `reach` where that is further.
-fn further(lasts: &[u16], by: usize, count: usize, number: usize, reach: usize) -> usize
-    requires { (by < 2) × (count ≤ 1280) }
-    ensures { (reach ≤ result) × Within by count lasts.now number result }
+fn further(lasts: &[u16], kind: RowKind, count: usize, number: usize, reach: usize) -> usize
+    requires { count ≤ 1280 }
+    ensures { (reach ≤ result) × Within (parity kind) count lasts.now number result }
 {
-    if number % 2 == by {
-        let last = get(lasts, number / 2, count as u16);
-        if reach < last {
-            return last;
-        }
+    if number % 2 != kind.parity() {
+        return reach;
     }
-    reach
+    reach.max(get(lasts, number / 2, count as u16))
 }
 
 // How far a row asks, or `least` where that is further.
 fn reach_of(
     numbers: &[u16],
     lasts: &[u16],
-    by: usize,
+    kind: RowKind,
     count: usize,
     place: usize,
     least: usize,
 ) -> usize
-    requires { (by < 2) × ((count ≤ 1280) × (place < 32768)) }
-    ensures { (least ≤ result) × RowReaches by count numbers.now lasts.now place result }
+    requires { (count ≤ 1280) × (place < 32768) }
+    ensures { (least ≤ result) × RowReaches (parity kind) count numbers.now lasts.now place result }
 {
     let size = get(numbers, place + 1, 0);
     let mut reach = least;
-    let mut at: usize = 0;
-    while at < size {
+    // By index: what lies past the end of the array is asked for, too.
+    for at in 0..size {
         let number = get(numbers, place + 2 + at, 0);
-        reach = further(lasts, by, count, number, reach);
-        at += 1;
+        reach = further(lasts, kind, count, number, reach);
     }
     reach
 }
@@ -93,25 +106,20 @@ fn mark(visit: u16, ends: bool) -> u16
     requires { visit < 32768 }
     ensures { (place_of result ≡ visit) × (ends_part result ≡ ends) }
 {
-    if ends {
-        return visit + 32768;
-    }
-    visit
+    if ends { visit + MARK } else { visit }
 }
 
 // Marks the visits that a part ends with: those that no row so far reaches beyond.
-pub fn mark_parts(numbers: &[u16], by: usize, visits: &mut [u16], count: usize)
-    requires { (by < 2) × ((count ≤ 1280) × ((count ≤ length visits.old) × Unmarked count visits.old)) }
-    ensures { Parted by count numbers.now visits.new × Marked count visits.old visits.new }
+pub fn mark_parts(numbers: &[u16], kind: RowKind, visits: &mut [u16], count: usize)
+    requires { (count ≤ 1280) × ((count ≤ length visits.old) × Unmarked count visits.old) }
+    ensures { Parted (parity kind) count numbers.now visits.new × Marked count visits.old visits.new }
 {
     let mut lasts = [0u16; 513];
     find_lasts(numbers, visits, &mut lasts, count);
     let mut reach: usize = 0;
-    let mut done: usize = 0;
-    while done < count {
-        let visit = visits[done];
-        reach = reach_of(numbers, &lasts, by, count, place_of(visit), reach);
-        visits[done] = mark(visit, reach <= done + 1);
-        done += 1;
+    // By index: a visit is marked where the reach is no further than the visits up to it.
+    for i in 0..count {
+        reach = reach_of(numbers, &lasts, kind, count, place_of(visits[i]), reach);
+        visits[i] = mark(visits[i], reach <= i + 1);
     }
 }

@@ -6,7 +6,7 @@ ghost use Rattle.preparing.specs.Preparing.{PapersStand, Room, Prepares};
 use copying::copy_numbers;
 use ordering::order_rows;
 use papers::Contents;
-use parts::mark_parts;
+use parts::{RowKind, mark_parts};
 use rows::entries::decode_dual;
 use rows::rules::decode_rules;
 
@@ -55,8 +55,8 @@ pub fn prepare(
         rule_visits,
         count,
     );
-    mark_parts(rules, 0, rule_visits, count);
-    mark_parts(entries, 1, entry_visits, judged);
+    mark_parts(rules, RowKind::Rule, rule_visits, count);
+    mark_parts(entries, RowKind::Entry, entry_visits, judged);
     copy_numbers(query, asked, 0);
     Counts {
         folds: count,

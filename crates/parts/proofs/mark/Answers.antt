@@ -10,6 +10,6 @@ pub returns-then-ends : goal.returns-then-ends
 unfolding place_of ends_part
 returns-then-ends c = (omega arith, le-leb 32768 (c.args.visit + 32768) (omega arith) ∙ sym c.if-ends.true)
 
-pub returns : goal.returns
+pub returns-else-ends : goal.returns-else-ends
 unfolding place_of ends_part
-returns c = (omega arith, lt-leb 32768 c.args.visit (omega arith) ∙ sym c.if-ends.false)
+returns-else-ends c = (omega arith, lt-leb 32768 c.args.visit (omega arith) ∙ sym c.if-ends.false)

@@ -7,24 +7,18 @@ use Rattle.parts.proofs.mark_parts.Goals as goal
 
 pub reach_of-reach-requires : goal.reach_of-reach-requires
 unfolding place_of
-reach_of-reach-requires c =
-    (c.requires.0, (c.requires.1.0, (let e = c.place_of.ensures in omega arith)))
+reach_of-reach-requires c = (c.requires.0, (let e = c.place_of.ensures in omega arith))
 
 pub mark-requires : goal.mark-requires
-mark-requires c =
-    still_unmarked c.requires.1.1.1 c.loop-done-test.true c.loop-done.invariant.0
+mark-requires c = still_unmarked c.requires.1.1 c.loop-i-test.true c.loop-i.invariant
 
-pub loop-done-preserved : goal.loop-done-preserved
-loop-done-preserved c =
-    let l = c.loop-done in (
-      marked_more c.mark.result c.requires.1.1.1 c.requires.1.1.0 c.loop-done-test.true
-          c.reach_of-reach.ensures.0 c.place_of.ensures c.reach_of-reach.ensures.1 c.mark.ensures.0
-          c.mark.ensures.1 l.invariant.0,
-      omega arith,
-    )
+pub loop-i-preserved : goal.loop-i-preserved
+loop-i-preserved c =
+    marked_more c.mark.result c.requires.1.1 c.requires.1.0 c.loop-i-test.true c.reach_of-reach.ensures.0 c.place_of.ensures
+    c.reach_of-reach.ensures.1 c.mark.ensures.0 c.mark.ensures.1 c.loop-i.invariant
 
 pub returns : goal.returns
 returns c =
-    let e : c.loop-done.done ≡ c.args.count = omega arith in
-    let m = rw e at c.loop-done.invariant.0 in
-    (marked_parted c.args.numbers.now c.requires.1.1.1 c.find_lasts.ensures m, m.marked)
+    let e : c.loop-i.i ≡ c.args.count = omega arith in
+    let m = rw e at c.loop-i.invariant in
+    (marked_parted c.args.numbers.now c.requires.1.1 c.find_lasts.ensures m, m.marked)

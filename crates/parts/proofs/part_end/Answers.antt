@@ -1,36 +1,27 @@
 -- `parts::part_end` meets its contract.
-use mathlib.Core.Path.{◌≡◌, sym, ap, ◌∙◌}
-use mathlib.Core.Bool.{false}
-use Prim.Native.Nat.{ℕ, ◌-◌}
-use native.Mathlib.Omega.{arith}
-use native.Mathlib.Decide.{ℕ_discrete}
-use lib.ListN.{get_or}
-use Rattle.parts.specs.Parts.{ends_part}
+use Rattle.std.proofs.Common.{◌<◌, length, ℕ, List, drop, ◌∙◌, rules, tests, MatchOption}
+use Rattle.std.specs.List.{AllWithin, HoldsAt}
+use Rattle.std.proofs.lemmas.Iterator.{IsFirst-from_position, YieldsList-from_slice}
+use Rattle.std.proofs.lemmas.Option.{MatchOption-at_some, MatchOption-at_none}
+use Rattle.papers.proofs.NumbersWalked.{to_end}
+use Rattle.parts.proofs.MarkedParts.{Marks, Plain, ended_at, ended_last}
 use Rattle.parts.proofs.part_end.Goals as goal
+use Rattle.parts.proofs.part_end.Goals.{After-position}
 
-pub loop-end-init : goal.loop-end-init
-loop-end-init c = (omega arith, omega arith, λ i h k. absurd (omega arith))
+module _ (c : After-position) where
+  abbrev rest : List ℕ
+  rest = drop c.args.start c.args.visits.now
 
-pub returns-then-ends_part : goal.returns-then-ends_part
-returns-then-ends_part c = record {
-  later = omega arith;
-  within = omega arith;
-  marked = λ h. sym c.ends_part.ensures ∙ c.if-ends_part.true;
-  first = c.loop-end.invariant.2;
-}
+  found : MatchOption c.position.result (AllWithin Plain rest 0 (length rest)) (λ i. (i < length rest) × HoldsAt Marks rest i × AllWithin Plain rest 0 i)
+  found =
+      let listed = YieldsList-from_slice rest (c.iter.ensures.rest ∙ to_end c.args.start c.args.visits.now) in
+      IsFirst-from_position _ _ _ Marks Plain c.position.ensures.ran listed (λ x q k. search (rules, tests)) (λ x q k. search (rules, tests))
 
-pub loop-end-preserved : goal.loop-end-preserved
-loop-end-preserved c =
-    let visits = c.args.visits.now in
-    let l = c.loop-end in
-    let unmarked : ends_part (get_or visits (l.end - 1) 0) ≡ false = sym c.ends_part.ensures ∙ c.if-ends_part.false in (
-      omega arith,
-      omega arith,
-      λ i h k. elim (ℕ_discrete i (l.end - 1)) [
-        | yes e ↦ ap (λ (j : ℕ). ends_part (get_or visits j 0)) e ∙ unmarked
-        | no ne ↦ l.invariant.2 i h (omega (arith, ne))
-      ],
-    )
+pub returns-in-Some : goal.returns-in-Some
+returns-in-Some c =
+    let m = MatchOption-at_some _ _ _ c.in-Some.is (found (goal.at.returns-in-Some c).After-position) in
+    ended_at c.args.visits.now c.args.start c.in-Some.last m.0 m.1 m.2
 
-pub returns : goal.returns
-returns c = record { later = omega arith; within = omega arith; marked = λ h. absurd (omega arith); first = c.loop-end.invariant.2 }
+pub returns-in-None : goal.returns-in-None
+returns-in-None c =
+    ended_last c.args.visits.now c.args.start c.requires (MatchOption-at_none _ _ c.in-None.is (found (goal.at.returns-in-None c).After-position))

@@ -1,18 +1,9 @@
 -- `parts::reach_of` meets its contract. The loop's invariant: the first numbers of the row are within `reach`.
-use mathlib.Core.Path.{◌≡◌, ◌∙◌}
 use native.Mathlib.Omega.{arith}
 use Rattle.parts.proofs.ReachLaws.{reaches_more}
 use Rattle.parts.proofs.reach_of.Goals as goal
 
 pub loop-at-preserved : goal.loop-at-preserved
 loop-at-preserved c =
-    let l = c.loop-at in (
-      (let h = c.further-reach.ensures.0 in omega arith),
-      (reaches_more c.further-reach.ensures.0 (rw c.get-number.ensures.0 at c.further-reach.ensures.1) l.invariant.1.0, omega arith),
-    )
-
-pub returns : goal.returns
-returns c =
     let l = c.loop-at in
-    let e : l.at ≡ c.get-size.result = omega arith in
-    (l.invariant.0, rw (e ∙ c.get-size.ensures.0) at l.invariant.1.0)
+    (omega arith, reaches_more c.further-reach.ensures.0 (rw c.get-number.ensures.0 at c.further-reach.ensures.1) l.invariant.1)

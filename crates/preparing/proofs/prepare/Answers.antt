@@ -105,13 +105,13 @@ pub mark_parts-requires : goal.mark_parts-requires
 mark_parts-requires c =
     let few-rules = few (goal.at.mark_parts-requires c).Start in
     let long = c.order_rows.ensures.1.1.sized in
-    (omega arith, (few-rules, (omega (arith, c.requires.1.rule_visits_fit), rules_unmarked (goal.at.mark_parts-requires c).After-order_rows)))
+    (few-rules, (omega (arith, c.requires.1.rule_visits_fit), rules_unmarked (goal.at.mark_parts-requires c).After-order_rows))
 
 pub mark_parts-requires-2 : goal.mark_parts-requires-2
 mark_parts-requires-2 c =
     let few-entries = judged_few (goal.at.mark_parts-requires-2 c).After-judged-judged in
     let long = c.order_rows.ensures.0.1.sized in
-    (omega arith, (omega arith, (omega (arith, c.requires.1.entry_visits_fit), entries_unmarked (goal.at.mark_parts-requires-2 c).After-order_rows)))
+    (omega arith, (omega (arith, c.requires.1.entry_visits_fit), entries_unmarked (goal.at.mark_parts-requires-2 c).After-order_rows))
 
 pub copy_numbers-requires : goal.copy_numbers-requires
 copy_numbers-requires c =
