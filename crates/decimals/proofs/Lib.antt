@@ -4,3 +4,5 @@
 pub mod DecimalLaws
 -- Text put into a buffer piece by piece.
 pub mod Putting
+-- Printing, one text after another.
+pub mod Printing

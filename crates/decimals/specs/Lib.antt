@@ -4,3 +4,5 @@
 pub mod Decimal
 -- Text in a buffer, and the items of a line.
 pub mod Text
+-- What printing comes to.
+pub mod Printing

@@ -1,50 +1,60 @@
-// Text put into a buffer from a place on: bytes and decimal numbers.
+// Text printed into a lent buffer: bytes and decimal numbers.
 #![tactic(auto)]
 
-ghost use Rattle.std.specs.Prelude.{[], ◌∷◌, ◌++◌, ◌+◌, ◌<◌, ◌≤◌, ◌^◌, length};
+ghost use Rattle.std.specs.Prelude.{◌≡◌, [], ◌∷◌, ◌+◌, ◌<◌, ◌≤◌, ◌^◌, length};
 ghost use Rattle.decimals.specs.Decimal.{decimal};
-ghost use Rattle.decimals.specs.Text.{Put};
+ghost use Rattle.decimals.specs.Printing.{Printed};
 
-pub fn put_byte(buffer: &mut [u8], at: usize, byte: u8) -> usize
-    requires { at < 2 ^ 63 }
-    ensures { Put at (byte ∷ []) buffer.old result buffer.new }
-{
-    if at < buffer.len() {
-        buffer[at] = byte;
-    }
-    at + 1
+// A place in a lent buffer, from which on text is printed. Bytes past the buffer's end are left out, and the place counts them.
+pub struct Printer<'a> {
+    buffer: &'a mut [u8],
+    at: usize,
 }
 
-pub fn put_text(buffer: &mut [u8], at: usize, text: &[u8]) -> usize
-    requires { at + length text.now < 2 ^ 63 }
-    ensures { Put at text.now buffer.old result buffer.new }
-{
-    let mut end = at;
-    let mut i: usize = 0;
-    while i < text.len() {
-        end = put_byte(buffer, end, text[i]);
-        i += 1;
+impl<'a> Printer<'a> {
+    pub fn new(buffer: &'a mut [u8]) -> Printer<'a>
+        ensures same_buffer { result.buffer.ghost_name ≡ buffer.entry.ghost_name }
+        ensures bytes { result.buffer.now ≡ buffer.old }
+        ensures place { result.at ≡ 0 }
+    {
+        Printer { buffer, at: 0 }
     }
-    end
-}
 
-// A number in decimal, without leading zeros.
-fn put_decimal(buffer: &mut [u8], at: usize, n: u64) -> usize
-    requires { at < 2 ^ 62 }
-    ensures { Put at (decimal n) buffer.old result buffer.new × (result ≤ at + 20) }
-{
-    if n < 10 {
-        return put_byte(buffer, at, 48 + n as u8);
+    // The place after what is printed.
+    pub fn place(&self) -> usize
+        ensures { result ≡ self.now.at }
+    {
+        self.at
     }
-    let end = put_decimal(buffer, at, n / 10);
-    put_byte(buffer, end, 48 + (n % 10) as u8)
-}
 
-// A text, then a number.
-pub fn put_number(buffer: &mut [u8], at: usize, text: &[u8], n: u64) -> usize
-    requires { at + length text.now < 2 ^ 62 }
-    ensures { Put at (text.now ++ decimal n) buffer.old result buffer.new × (result ≤ at + length text.now + 20) }
-{
-    let end = put_text(buffer, at, text);
-    put_decimal(buffer, end, n)
+    pub fn put_byte(&mut self, byte: u8)
+        requires { self.old.at < 2 ^ 63 }
+        ensures { Printed (byte ∷ []) self.old self.new }
+    {
+        if self.at < self.buffer.len() {
+            self.buffer[self.at] = byte;
+        }
+        self.at += 1;
+    }
+
+    pub fn put_text(&mut self, text: &str)
+        requires { self.old.at + length text.now < 2 ^ 63 }
+        ensures { Printed text.now self.old self.new }
+    {
+        for &byte in text.as_bytes() {
+            self.put_byte(byte);
+        }
+    }
+
+    // A number in decimal, without leading zeros.
+    pub fn put_number(&mut self, n: u64)
+        requires { self.old.at < 2 ^ 62 }
+        ensures printed { Printed (decimal n) self.old self.new }
+        ensures short { self.new.at ≤ self.old.at + 20 }
+    {
+        if n >= 10 {
+            self.put_number(n / 10);
+        }
+        self.put_byte(b'0' + (n % 10) as u8);
+    }
 }

@@ -1,17 +1,17 @@
 -- `report::write_refused` meets its contract.
-use mathlib.Core.List.{[], ◌∷◌, append-nil}
-use native.Mathlib.Omega.{arith}
+use mathlib.Core.List.{[], ◌∷◌}
 use Rattle.decimals.specs.Decimal.{decimal}
-use Rattle.decimals.specs.Text.{spaced}
 use Rattle.report.specs.Lines.{refused_line, refused_word, paper_word}
-use Rattle.decimals.proofs.Putting.{put_line}
+use Rattle.decimals.proofs.Putting.{further}
+use Rattle.decimals.proofs.Printing.{printed_append, printed_line}
 use Rattle.report.proofs.write_refused.Goals as goal
 
-pub returns : goal.returns
-unfolding refused_line spaced
-returns c =
-    let a = c.args in
-    let paper = paper_word a.refusal.paper in
-    let place = decimal a.refusal.place in
-    let put = put_line refused_word (decimal a.refusal.number) (paper ∷ place ∷ []) in
-    (put c.put_number-first.ensures.0 (rw (append-nil place) c.put_place-second.ensures.0) c.put_byte.ensures, omega arith)
+pub returns-clause-line : goal.returns-clause-line
+unfolding refused_line further
+returns-clause-line c =
+    let refusal = c.args.refusal in
+    let items = decimal refusal.number ∷ paper_word refusal.paper ∷ decimal refusal.place ∷ [] in
+    let word = rw c.paper_word.ensures.word at c.put_text-3.ensures in
+    let end = printed_append c.put_text-4.ensures (printed_append c.put_number-2.ensures.printed c.put_byte.ensures) in
+    let middle = printed_append c.put_text-2.ensures (printed_append word end) in
+    printed_line refused_word items (printed_append c.put_text.ensures (printed_append c.put_number.ensures.printed middle))

@@ -1,0 +1,41 @@
+-- Printing, one text after another. Assumes nothing.
+use mathlib.Core.Path.{◌≡◌, refl, ◌∙◌}
+use mathlib.Core.List.{List, [], ◌∷◌, ◌++◌}
+use Prim.Native.Nat.{ℕ, ◌+◌, ◌/◌, ◌%◌, ◌^◌, ◌≤◌, ◌<◌}
+use native.Mathlib.Omega.{arith}
+use native.Mathlib.Numerals.{add-one}
+use lib.ListN.{length, get_or, take}
+use lib.Seq.{take-suc}
+use Rattle.decimals.specs.Decimal.{decimal}
+use Rattle.decimals.specs.Text.{written, line}
+use Rattle.decimals.specs.declared.Printer.{Printer}
+use Rattle.decimals.specs.Printing.{Printed}
+use Rattle.decimals.proofs.DecimalLaws.{decimal_one, decimal_more, decimal_length}
+use Rattle.decimals.proofs.Putting.{put_two, further, line_further}
+
+pub printed_none : (p : Printer) → Printed [] p p
+unfolding written
+printed_none p = record { put = record { place = omega arith; bytes = refl }; same_buffer = refl }
+
+pub printed_append : {x y : List ℕ} {p q r : Printer} → Printed x p q → Printed y q r → Printed (x ++ y) p r
+printed_append {x = x} {y = y} a b = record { put = put_two x y a.put b.put; same_buffer = b.same_buffer ∙ a.same_buffer }
+
+-- A line, by its first item and the further ones.
+pub printed_line : {p q : Printer} (first : List ℕ) (more : List (List ℕ)) → Printed (first ++ further more) p q → Printed (line first more) p q
+printed_line first more a = rw (line_further first more) a
+
+-- One byte more of a text.
+pub printed_byte : {p q r : Printer} (i : ℕ) (text : List ℕ) → i < length text → Printed (take i text) p q → Printed (get_or text i 0 ∷ []) q r
+    → Printed (take (i + 1) text) p r
+printed_byte i text h a b = rw (add-one i, take-suc text i 0 h) (printed_append a b)
+
+-- A number's last digit, after those before it where it has more than one.
+module _ {p r : Printer} (n : ℕ) where
+  pub printed_one : n < 10 → Printed ((48 + n % 10) ∷ []) p r → Printed (decimal n) p r
+  printed_one h b = rw (decimal_one n h) (let e : n % 10 ≡ n = omega arith in rw e at b)
+
+  pub printed_more : {q : Printer} → 10 ≤ n → Printed (decimal (n / 10)) p q → Printed ((48 + n % 10) ∷ []) q r → Printed (decimal n) p r
+  printed_more h a b = rw (decimal_more n h) (printed_append a b)
+
+  pub printed_short : n < 2 ^ 64 → Printed (decimal n) p r → r.at ≤ p.at + 20
+  printed_short fits b = let few = decimal_length 19 n (omega arith) in let e = b.put.place in omega arith
