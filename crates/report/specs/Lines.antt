@@ -2,7 +2,7 @@
 use Rattle.std.specs.Prelude.{List, [], ◌∷◌, ℕ}
 use Rattle.papers.specs.declared.Paper.{Paper}
 use Rattle.papers.specs.declared.Paper.TheVariants.{File, Sheet}
-use Rattle.papers.specs.declared.Refusal.{Refusal}
+use Rattle.papers.specs.Outcome.{Refusal}
 use Rattle.steps.specs.declared.State.{State}
 use Rattle.steps.specs.declared.State.TheVariants.{Going, Full, Ended}
 use Rattle.decimals.specs.Decimal.{decimal}

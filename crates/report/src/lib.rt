@@ -2,6 +2,7 @@
 #![tactic(auto)]
 
 ghost use Rattle.std.specs.Prelude.{◌≡◌, ◌+◌, ◌<◌, ◌≤◌, ◌^◌, length};
+ghost use Rattle.papers.specs.Told.{refusal_of};
 ghost use Rattle.decimals.specs.Printing.{Printed};
 ghost use Rattle.report.specs.Lines.{state_word, paper_word, heading_line, last_line, refused_line};
 
@@ -64,11 +65,11 @@ fn paper_word(paper: Paper) -> &'static str
 // `refused 6 sheet 0`
 pub fn write_refused(page: &mut Printer, refusal: Refusal)
     requires { page.old.at < 2 ^ 32 }
-    ensures line { Printed (refused_line refusal) page.old page.new }
+    ensures line { Printed (refused_line (refusal_of refusal)) page.old page.new }
     ensures short { page.new.at ≤ page.old.at + 512 }
 {
     page.put_text("refused ");
-    page.put_number(refusal.number as u64);
+    page.put_number(u64::from(refusal.fault.number()));
     page.put_text(" ");
     page.put_text(paper_word(refusal.paper));
     page.put_text(" ");
