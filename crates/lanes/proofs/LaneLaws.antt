@@ -135,7 +135,8 @@ unfolding lane_bit bit
 lane_not l x h k =
     let m : bit_and x 18446744073709551615 ≡ x % 18446744073709551616 = and_mask x 64 in
     let e : 18446744073709551615 - x ≡ bit_xor x 18446744073709551615 = omega (arith, xor_add_and x 18446744073709551615) in
-    let f : bit l (18446744073709551615 - x) ≡ differ (bit l x) 1 = ap (bit l) e ∙ bit_xor_lem l x 18446744073709551615 ∙ ap (differ (bit l x)) (bit_full l h) in
+    let f : bit l (18446744073709551615 - x) ≡ differ (bit l x) 1 =
+    ap (bit l) e ∙ bit_xor_lem l x 18446744073709551615 ∙ ap (differ (bit l x)) (bit_full l h) in
     ap (λ (y : ℕ). eqb y 1) f ∙ go (bit l x) (bit_lt l x) where
       go : (y : ℕ) → y < 2 → eqb (differ y 1) 1 ≡ not (eqb y 1)
       go zero h = refl
@@ -156,7 +157,8 @@ bits_same : (n a b : ℕ) → a < 2 ^ n → b < 2 ^ n → ((l : ℕ) → l < n �
 bits_same zero a b h k e = lt-one h ∙ sym (lt-one k)
 bits_same (suc n) a b h k e =
     let p = pow-suc 2 n in
-    let high : a / 2 ≡ b / 2 = bits_same n (a / 2) (b / 2) (omega arith) (omega arith) (λ l m. sym (bit_suc l a) ∙ e (suc l) (omega arith) ∙ bit_suc l b) in
+    let high : a / 2 ≡ b / 2 =
+    bits_same n (a / 2) (b / 2) (omega arith) (omega arith) (λ l m. sym (bit_suc l a) ∙ e (suc l) (omega arith) ∙ bit_suc l b) in
     let low : a % 2 ≡ b % 2 = lowest a ∙ e 0 (omega arith) ∙ sym (lowest b) in
     omega arith
 

@@ -8,7 +8,6 @@ use native.Mathlib.Numerals.{add-one}
 use lib.Bits.{bit_and}
 use lib.ListN.{length, get_or, drop, drop_of_length-le}
 use lib.Seq.{drop-cons}
-use Rattle.literals.specs.declared.Literal.{Literal}
 use Rattle.literals.specs.declared.bodies.BodyLiteral.{BodyLiteral}
 use Rattle.literals.specs.declared.bodies.BodyLiteral.TheVariants.{Is, Undefined}
 use Rattle.literals.specs.Numbering.{objective_number, default_negated}
@@ -24,15 +23,6 @@ use Rattle.papers.proofs.TestLaws.{false_and, and_true, and_assoc}
 use Rattle.lanes.proofs.LaneLaws.{lane_and, lane_none, has_lane}
 
 -- ---- a literal
-
-module _ (l : Literal) (o : ℕ) (set negated : List ℕ) where
-  pub word_negated : o ≡ objective_number l.0 → default_negated l.0 ≡ true → get_or negated o 0 ≡ word_of (Is l) set negated
-  unfolding word_of
-  word_negated e h = rw (e, h)
-
-  pub word_bare : o ≡ objective_number l.0 → default_negated l.0 ≡ false → get_or set o 0 ≡ word_of (Is l) set negated
-  unfolding word_of
-  word_bare e h = rw (e, h)
 
 -- Its word says in each lane whether it holds.
 pub word_holds : (n : ℕ) (x : BodyLiteral) (set negated : List ℕ) → Below n x → (l : ℕ)

@@ -25,7 +25,8 @@ pub record Literals (n : ℕ) (body : List ℕ) : Type 0 where
 
 -- A body's word: those of the lanes in which it holds, of however many objective literals it speaks. u never holds.
 pub record BodyWord (body set negated : List ℕ) (lanes word : ℕ) : Type 0 where
-  pub in_lane : (n : ℕ) → Literals n body → (l : ℕ) → lane_bit l word ≡ (lane_bit l lanes and body_holds false (lane n l set) (lane n l negated) body)
+  pub in_lane : (n : ℕ) → Literals n body → (l : ℕ)
+      → lane_bit l word ≡ (lane_bit l lanes and body_holds false (lane n l set) (lane n l negated) body)
 
 -- ---- rows of words
 
