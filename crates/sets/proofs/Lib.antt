@@ -1,2 +1,4 @@
 -- The lanes in which two rows differ.
 mod ChangeLaws
+-- Words that are written by a function.
+pub mod WritingLaws

@@ -1,33 +1,9 @@
--- `sets::complement_words` meets its contract. The loop's invariant: the words passed are written.
-use mathlib.Core.Path.{◌≡◌, subst}
-use Prim.Native.Nat.{ℕ}
-use native.Mathlib.Omega.{arith}
-use lib.ListN.{length-set}
-use Rattle.lanes.specs.Lanes.{Written}
+-- `sets::complement_words` meets its contract.
+use borrow.Author.Rules.{rules}
 use Rattle.lanes.specs.Words.{other_word}
-use Rattle.lanes.proofs.LaneLaws.{written_none, written_more}
+use Rattle.sets.proofs.WritingLaws.{written_by}
 use Rattle.sets.proofs.complement_words.Goals as goal
 
-pub loop-o-init : goal.loop-o-init
-loop-o-init c =
-    let a = c.args in
-    (omega arith, (c.lent_known.ensures.many, written_none (other_word a.words.now) a.after.now))
-
-pub loop-o-preserved : goal.loop-o-preserved
-unfolding other_word
-loop-o-preserved c =
-    let l = c.loop-o in
-    let a = c.args in (
-      omega arith,
-      (
-        simp length-set l.invariant.1.0,
-        written_more (other_word a.words.now) l.o a.after.now l.after (omega (arith, c.requires, l.invariant.1.0)) l.invariant.1.1,
-      ),
-    )
-
 pub returns : goal.returns
-returns c =
-    let l = c.loop-o in
-    let a = c.args in
-    let e : l.o ≡ a.count = omega arith in
-    subst (λ (n : ℕ). Written n (other_word a.words.now) a.after.now l.after) e l.invariant.1.1
+unfolding other_word
+returns c = written_by _ c.write_words.ensures (λ o x h k. search rules)

@@ -1,0 +1,2 @@
+-- Sets of 64 lanes, written into lent rows.
+pub mod Writing
