@@ -9,18 +9,19 @@ use native.Mathlib.Nat.{div-div-eq-div-mul, pow-succ', pow-suc}
 use native.Mathlib.Omega.{arith}
 use borrow.Author.Tests.{eq-eqb, ne_eqb}
 use lib.Dec.{eqb}
-use lib.ListN.{length, get_or, drop, set, length-set, length-append}
+use lib.ListN.{length, get_or, set, length-set, length-append}
 use lib.Seq.{get_or-set_same, get_or-set_other}
 use Rattle.literals.specs.Numbering.{positive, negative, atom_number, explicitly_negated, judged}
 use Rattle.papers.specs.Program.{Program}
 use Rattle.papers.specs.Field.{number_in, numbers}
 use Rattle.papers.specs.Content.{is_among}
 use Rattle.papers.specs.Valid.{All, each, Rising, Rising.next as above}
-use Rattle.papers.proofs.NumbersWalked.{read_number, no_number}
+use Rattle.papers.proofs.NumbersWalked.{no_number}
 use Rattle.model.specs.Scenarios.{digit_of, true_abducible, false_abducible}
 use Rattle.lanes.specs.Lanes.{lane_bit, KeptFrom}
 use Rattle.digits.specs.Digits.{DigitLanes, AbducibleLanes}
 use Rattle.lanes.proofs.LaneLaws.{lane_none}
+use Rattle.digits.proofs.Powers.{power_fits}
 use Rattle.digits.proofs.ClearedWords.{kept_same, kept_through, kept_set, Cleared}
 
 -- ---- one abducible more
@@ -123,32 +124,38 @@ all_there : {P : ℕ → Type 0} (l : List ℕ) (a : ℕ) (more : List ℕ) → 
 all_there [] a more (each p rest) = p
 all_there (x ∷ l) a more (each p rest) = all_there l a more rest
 
--- The abducibles behind have their words.
-pub record Seeding (n base : ℕ) (listed trues₀ falses₀ trues falses : List ℕ) (power i : ℕ) : Type 0 where
+-- The first number of the bytes that are left, and those after it.
+pair_read : (pair more : List ℕ) (a : ℕ) → length pair ≡ 2 → a ≡ number_in pair 0 → numbers (pair ++ more) ≡ a ∷ numbers more
+unfolding numbers
+pair_read (high ∷ low ∷ []) more a h e = rw (← e)
+pair_read [] more a h e = absurd (omega arith)
+pair_read (high ∷ []) more a h e = absurd (omega arith)
+pair_read (high ∷ low ∷ other ∷ others) more a h e = absurd (omega arith)
+
+-- The abducibles behind have their words; those of these bytes are left.
+pub record Seeding (n base : ℕ) (all trues₀ falses₀ trues falses left : List ℕ) (power : ℕ) : Type 0 where
   pub done : List ℕ
-  pub split : numbers listed ≡ done ++ numbers (drop (2 * i) listed)
-  pub size : length done ≡ i
-  pub raised : power ≡ 3 ^ i
+  pub split : all ≡ done ++ numbers left
+  pub raised : power ≡ 3 ^ length done
   pub true_words : Seeded n base 1 2 done trues₀ trues
   pub false_words : Seeded n base 2 1 done falses₀ falses
 
-pub seeding_none : (n base : ℕ) (listed : List ℕ) {first second trues falses : List ℕ} → Cleared n first trues → Cleared n second falses
-    → Seeding n base listed trues falses trues falses 1 0
-seeding_none n base listed t f = record {
+pub seeding_none : (n base : ℕ) {all left first second trues falses : List ℕ} → numbers left ≡ all → Cleared n first trues → Cleared n second falses
+    → Seeding n base all trues falses trues falses left 1
+seeding_none n base listing t f = record {
   done = [];
-  split = refl;
-  size = refl;
+  split = sym listing;
   raised = refl;
   true_words = seeded_none n base 1 2 (omega arith) (omega arith) t;
   false_words = seeded_none n base 2 1 (omega arith) (omega arith) f;
 }
 
-module _ {n base : ℕ} {listed trues₀ falses₀ trues falses : List ℕ} {power i : ℕ} (w : Seeding n base listed trues₀ falses₀ trues falses power i) where
-  seeding_done : length listed / 2 ≤ i → w.done ≡ numbers listed
-  seeding_done h = sym (w.split ∙ ap (λ (x : List ℕ). w.done ++ x) (no_number listed i h) ∙ append-nil w.done)
+module _ {n base : ℕ} {all trues₀ falses₀ trues falses left : List ℕ} {power : ℕ} (w : Seeding n base all trues₀ falses₀ trues falses left power) where
+  seeding_done : length left < 2 → w.done ≡ all
+  seeding_done h = sym (w.split ∙ ap (λ (x : List ℕ). w.done ++ x) (no_number left 0 (omega arith)) ∙ append-nil w.done)
 
   -- Where all are behind, from rows that were cleared.
-  pub seeding_ends : (p : Program) {first second : List ℕ} → n ≡ judged p.atoms → numbers listed ≡ p.abducibles → length listed / 2 ≤ i
+  pub seeding_ends : (p : Program) {first second : List ℕ} → n ≡ judged p.atoms → all ≡ p.abducibles → length left < 2
       → Cleared n first trues₀ → Cleared n second falses₀
       → AbducibleLanes p base trues falses × KeptFrom (judged p.atoms) first trues × KeptFrom (judged p.atoms) second falses
   unfolding true_abducible false_abducible
@@ -161,24 +168,26 @@ module _ {n base : ℕ} {listed trues₀ falses₀ trues falses : List ℕ} {pow
         subst (λ (m : ℕ). KeptFrom m second falses) size (kept_through f.kept y.kept),
       )
 
-  module _ (here : i < length listed / 2) {a : ℕ} (is : a ≡ number_in listed (2 * i)) where
-    mid : numbers listed ≡ w.done ++ a ∷ numbers (drop (2 * (i + 1)) listed)
-    mid = w.split ∙ ap (λ (x : List ℕ). w.done ++ x) (read_number listed i here is)
+  module _ (pair more : List ℕ) (cut : left ≡ pair ++ more) (two : length pair ≡ 2) (a : ℕ) (is : a ≡ number_in pair 0) where
+    mid : all ≡ w.done ++ a ∷ numbers more
+    mid = w.split ∙ ap (λ (l : List ℕ). w.done ++ numbers l) cut ∙ ap (λ (l : List ℕ). w.done ++ l) (pair_read pair more a two is)
 
-    pub seeding_below : (m : ℕ) → All (◌< m) (numbers listed) → a < m
-    seeding_below m all = all_there w.done a (numbers (drop (2 * (i + 1)) listed)) (subst (All (◌< m)) mid all)
+    pub seeding_below : (m : ℕ) → All (◌< m) all → a < m
+    seeding_below m listed = all_there w.done a (numbers more) (subst (All (◌< m)) mid listed)
 
-    pub seeding_more : Rising 0 (numbers listed) → negative a < n → n ≤ 513 → (at opposite : ℕ) → at ≡ positive a → opposite ≡ negative a
+    -- The power of 3 is one of the first sixteen.
+    pub seeding_bounded : length all ≤ 16 → (0 < power) × (power ≤ 43046721)
+    seeding_bounded few = let e = simp length-append at (ap length mid) in power_fits w.raised (omega arith)
+
+    pub seeding_more : Rising 0 all → negative a < n → n ≤ 513
         → (assumed ruled : ℕ) → DigitLanes base power 1 assumed → DigitLanes base power 2 ruled
-        → Seeding n base listed trues₀ falses₀ (set (set trues at assumed) opposite ruled) (set (set falses at ruled) opposite assumed) (power * 3) (i + 1)
-    seeding_more rising few most at opposite f g assumed ruled x y =
-        let apart = rising_apart 0 w.done a (numbers (drop (2 * (i + 1)) listed)) (subst (Rising 0) mid rising) in
-        let e : power ≡ 3 ^ length w.done = w.raised ∙ ap (λ (k : ℕ). 3 ^ k) (sym w.size) in
-        rw (f, g) record {
+        → Seeding n base all trues₀ falses₀ (set (set trues (positive a) assumed) (negative a) ruled)
+        (set (set falses (positive a) ruled) (negative a) assumed) more (power * 3)
+    seeding_more rising few most assumed ruled x y =
+        let apart = rising_apart 0 w.done a (numbers more) (subst (Rising 0) mid rising) in record {
           done = w.done ++ a ∷ [];
-          split = mid ∙ sym (append_assoc w.done (a ∷ []) (numbers (drop (2 * (i + 1)) listed)));
-          size = simp length-append (omega (arith, w.size));
-          raised = ap (λ (k : ℕ). k * 3) w.raised ∙ sym (pow-suc 3 i) ∙ ap (λ (k : ℕ). 3 ^ k) (let q : suc i ≡ i + 1 = omega arith in q);
-          true_words = seeded_more n base 1 2 w.done trues₀ trues w.true_words a apart few most assumed ruled (rw e at x) (rw e at y);
-          false_words = seeded_more n base 2 1 w.done falses₀ falses w.false_words a apart few most ruled assumed (rw e at y) (rw e at x);
+          split = mid ∙ sym (append_assoc w.done (a ∷ []) (numbers more));
+          raised = ap (λ (k : ℕ). k * 3) w.raised ∙ sym (pow-suc 3 (length w.done)) ∙ ap (λ (k : ℕ). 3 ^ k) (simp length-append (omega arith));
+          true_words = seeded_more n base 1 2 w.done trues₀ trues w.true_words a apart few most assumed ruled (rw w.raised at x) (rw w.raised at y);
+          false_words = seeded_more n base 2 1 w.done falses₀ falses w.false_words a apart few most ruled assumed (rw w.raised at y) (rw w.raised at x);
         }

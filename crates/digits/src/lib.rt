@@ -1,15 +1,15 @@
 // The digits of 64 scenarios that follow one another, as words: a lane for each scenario.
 #![tactic(auto)]
 
-ghost use Rattle.std.specs.Prelude.{◌≡◌, cond, ◌+◌, ◌%◌, ◌<◌, ◌≤◌};
-ghost use Rattle.std.specs.Int.Bits.{bit_or};
-ghost use Rattle.literals.specs.Numbering.{judged};
-ghost use Rattle.papers.specs.declared.FileRead.{FileRead};
+ghost use Rattle.std.specs.Prelude.{◌≡◌, ◌<◌, ◌≤◌, set};
+ghost use Rattle.literals.specs.Numbering.{positive, negative, judged};
 ghost use Rattle.papers.specs.Reading.{read_file, program_in};
-ghost use Rattle.papers.specs.Answers.{file_answer};
+ghost use Rattle.papers.specs.Answers.{contents_of};
+ghost use Rattle.papers.specs.Told.{tells, read_told};
 ghost use Rattle.lanes.specs.Lanes.{KeptFrom};
 ghost use Rattle.digits.specs.Digits.{LanesBelow, RunLanes, DigitLanes, AbducibleLanes};
 
+use literals::Atom;
 use numbered::atom_at;
 use papers::Contents;
 use sets::fill_words;
@@ -18,33 +18,15 @@ use sets::fill_words;
 fn lanes_below(lane: u64) -> u64
     ensures { LanesBelow lane result }
 {
-    if lane < 64 {
-        return (1 << lane) - 1;
-    }
-    18446744073709551615
+    if lane < 64 { (1 << lane) - 1 } else { u64::MAX }
 }
 
 // The lanes of a run: from its first one to the one before `end`.
+#[tactic(auto, using(crate::proofs::DigitLaws::run_between))]
 fn run_lanes(first: u64, end: u64) -> u64
     ensures { RunLanes first end result }
 {
-    let below = lanes_below(first);
-    lanes_below(end) & !below
-}
-
-// A word with some lanes more where a test holds.
-fn joined_if(word: u64, more: u64, test: bool) -> u64
-    ensures { result ≡ cond test (bit_or word more) word }
-{
-    if test { word | more } else { word }
-}
-
-// The digit of the next run.
-fn next_digit(digit: u64) -> u64
-    requires { digit < 3 }
-    ensures { result ≡ (digit + 1) % 3 }
-{
-    if digit < 2 { digit + 1 } else { 0 }
+    lanes_below(end) & !lanes_below(first)
 }
 
 // The lanes of the scenarios that have digit 1 at a power of 3, and those that have digit 2.
@@ -65,15 +47,30 @@ pub fn digit_lanes(base: u64, power: u64) -> DigitWords
     let mut digit = base / power % 3;
     let mut left = power - base % power;
     let mut lane: u64 = 0;
+    // A run at a time, and the first may be a shorter one.
     while lane < 64 {
         let run = run_lanes(lane, lane + left);
-        assumed = joined_if(assumed, run, digit == 1);
-        ruled = joined_if(ruled, run, digit == 2);
-        digit = next_digit(digit);
+        if digit == 1 {
+            assumed |= run;
+        }
+        if digit == 2 {
+            ruled |= run;
+        }
+        // A sum: `%` would be a multiplication in each turn.
+        digit = if digit < 2 { digit + 1 } else { 0 };
         lane += left;
         left = power;
     }
     DigitWords { assumed, ruled }
+}
+
+// The words of an atom and of its negation.
+fn put_words(row: &mut [u64; 513], atom: Atom, itself: u64, negation: u64)
+    requires { negative atom.0 < 513 }
+    ensures { row.new ≡ set (set row.old (positive atom.0) itself) (negative atom.0) negation }
+{
+    row[literals::positive(atom).0] = itself;
+    row[literals::negative(atom).0] = negation;
 }
 
 // The true and the false abducible literals of 64 scenarios, in the words of the judged literals.
@@ -84,7 +81,7 @@ pub fn abducible_lanes(
     trues: &mut [u64; 513],
     falses: &mut [u64; 513],
 )
-    requires { (file_answer (read_file file.now) ≡ FileRead.Accepted contents) × (base < 4294967296) }
+    requires { (read_told contents_of (read_file file.now) ≡ tells contents) × (base < 4294967296) }
     ensures { AbducibleLanes (program_in file.now) base trues.new falses.new
         × KeptFrom (judged (program_in file.now).atoms) trues.old trues.new
         × KeptFrom (judged (program_in file.now).atoms) falses.old falses.new }
@@ -92,23 +89,13 @@ pub fn abducible_lanes(
     let judged = literals::judged(contents.atoms);
     fill_words(trues, judged, 0);
     fill_words(falses, judged, 0);
-    let count = contents.abducibles;
-    let end = 12 + 2 * count;
-    let listed = &file[12..end];
+    let end = 12 + 2 * contents.abducibles;
     let mut power: u64 = 1;
-    let mut i: usize = 0;
-    while i < count {
-        let atom = atom_at(listed, 2 * i);
+    for pair in file[12..end].chunks_exact(2) {
+        let atom = atom_at(pair, 0);
         let words = digit_lanes(base, power);
-        let itself = literals::positive(atom);
-        let negation = literals::negative(atom);
-        let at = itself.0;
-        let opposite = negation.0;
-        trues[at] = words.assumed;
-        trues[opposite] = words.ruled;
-        falses[at] = words.ruled;
-        falses[opposite] = words.assumed;
-        power = power * 3;
-        i += 1;
+        put_words(trues, atom, words.assumed, words.ruled);
+        put_words(falses, atom, words.ruled, words.assumed);
+        power *= 3;
     }
 }

@@ -71,7 +71,8 @@ pub compared_all : (n : ℕ) (before after : List ℕ) (word : ℕ) → Compared
 unfolding lane
 compared_all n before after word c = record {
   same = λ l h.
-      set_ext n (lane n l before) (lane n l after) (length_set_of (λ o. lane_bit l (get_or before o 0)) n) (length_set_of (λ o. lane_bit l (get_or after o 0)) n)
+      set_ext n (lane n l before) (lane n l after)
+      (length_set_of (λ o. lane_bit l (get_or before o 0)) n) (length_set_of (λ o. lane_bit l (get_or after o 0)) n)
       (λ o k. has_set_of (λ o. lane_bit l (get_or before o 0)) n o k ∙ c.same l h o k ∙ sym (has_set_of (λ o. lane_bit l (get_or after o 0)) n o k));
   other = λ l h e.
       c.other l h

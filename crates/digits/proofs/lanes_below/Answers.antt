@@ -8,5 +8,5 @@ overflow_sub-result c = shifted_some c.args.lane c.if-lane-lt64.true
 pub returns-then-lane-lt64 : goal.returns-then-lane-lt64
 returns-then-lane-lt64 c = below_some c.args.lane c.if-lane-lt64.true
 
-pub returns : goal.returns
-returns c = below_all c.args.lane c.if-lane-lt64.false
+pub returns-else-lane-lt64 : goal.returns-else-lane-lt64
+returns-else-lane-lt64 c = below_all c.args.lane c.if-lane-lt64.false
