@@ -8,7 +8,7 @@ use borrow.Author.Tests.{eqb-true, eqb-false, eq-eqb, ne_eqb}
 use Rattle.literals.specs.declared.Atom.{Atom}
 use Rattle.literals.specs.declared.forms.Form.{Form}
 use Rattle.literals.specs.declared.forms.Form.TheVariants as form
-use Rattle.literals.specs.declared.forms.FormOf.TheVariants.{Is, Nothing}
+use Rattle.std.specs.Prelude.{Some, None}
 use Rattle.literals.specs.Section21.{conj_e, conj_d}
 use Rattle.literals.specs.Numbering.{explicitly_negated, objective_number, default_negated, atom_number, number_of, form_by, literal_form}
 
@@ -70,7 +70,7 @@ conj_d_twice (form.NotAtom a) = refl
 conj_d_twice (form.NotNegatedAtom a) = refl
 
 -- the explicit one twice is the objective literal.
-pub conj_e_twice : (l m : Form) → conj_e l ≡ Is m → conj_e m ≡ Is l
+pub conj_e_twice : (l m : Form) → conj_e l ≡ Some m → conj_e m ≡ Some l
 unfolding conj_e
 conj_e_twice (form.Atom a) m h = let e : form.NegatedAtom a ≡ m = cc in rw (← e)
 conj_e_twice (form.NegatedAtom a) m h = let e : form.Atom a ≡ m = cc in rw (← e)
@@ -78,7 +78,7 @@ conj_e_twice (form.NotAtom a) m h = absurd (true≢false cc)
 conj_e_twice (form.NotNegatedAtom a) m h = absurd (true≢false cc)
 
 -- Where a literal has an explicit conjugate, its default conjugate has none: of no literal are conj_D(conj_E(..)) and conj_E(conj_D(..)) both defined.
-pub conj_e_one : (l m : Form) → conj_e l ≡ Is m → conj_e (conj_d l) ≡ Nothing
+pub conj_e_one : (l m : Form) → conj_e l ≡ Some m → conj_e (conj_d l) ≡ None
 unfolding conj_e conj_d
 conj_e_one (form.Atom a) m h = refl
 conj_e_one (form.NegatedAtom a) m h = refl

@@ -8,7 +8,7 @@ use native.Mathlib.Omega.{arith}
 use borrow.Author.Tests.{eqb-true, eqb-false, lt-ltb, le-ltb}
 use Rattle.literals.specs.declared.forms.Form.{Form}
 use Rattle.literals.specs.declared.forms.Form.TheVariants as form
-use Rattle.literals.specs.declared.forms.FormOf.TheVariants.{Is, Nothing}
+use Rattle.std.specs.Prelude.{Some, None}
 use Rattle.literals.specs.Section21.{conj_e, conj_d}
 use Rattle.literals.specs.Numbering.{positive, negative, atom_number, explicitly_negated, number_of, literal_form, objective_or, explicit_conjugate}
 use Rattle.literals.specs.Numbering.{literal, default_negation, objective_number, default_conjugate, falsum, listed}
@@ -103,18 +103,18 @@ unfolding default_conjugate
 default_is l = sym (form_of_number (conj_d (literal_form l)))
 
 -- Every objective literal has an explicit conjugate, and it is that of its number;
-pub explicit_is : (o : ℕ) → conj_e (literal_form (literal o)) ≡ Is (literal_form (literal (explicit_conjugate o)))
+pub explicit_is : (o : ℕ) → conj_e (literal_form (literal o)) ≡ Some (literal_form (literal (explicit_conjugate o)))
 unfolding conj_e number_of
 explicit_is =
-    objective_cases (λ o. conj_e (literal_form (literal o)) ≡ Is (literal_form (literal (explicit_conjugate o))))
+    objective_cases (λ o. conj_e (literal_form (literal o)) ≡ Some (literal_form (literal (explicit_conjugate o))))
     (λ a. rw (explicit_of_positive a, form_of_number (form.Atom (record { 0 = a })), form_of_number (form.NegatedAtom (record { 0 = a }))))
     (λ a. rw (explicit_of_negative a, form_of_number (form.Atom (record { 0 = a })), form_of_number (form.NegatedAtom (record { 0 = a }))))
 
-pub explicit_never_none : (o : ℕ) → conj_e (literal_form (literal o)) ≡ Nothing → ⊥
+pub explicit_never_none : (o : ℕ) → conj_e (literal_form (literal o)) ≡ None → ⊥
 explicit_never_none o h = let e = explicit_is o in true≢false cc
 
 -- no default negation has one.
-pub negation_has_none : (o : ℕ) → conj_e (literal_form (default_negation o)) ≡ Nothing
+pub negation_has_none : (o : ℕ) → conj_e (literal_form (default_negation o)) ≡ None
 negation_has_none o = rw (← default_of_literal o, ← default_is (literal o)) (conj_e_one (literal_form (literal o)) _ (explicit_is o))
 
 -- They commute on objective literals, where document 000 defines both: not(conj_E(O)) is the default conjugate of conj_E(O), and it is the default

@@ -1,11 +1,9 @@
 -- Document 01, Numberings: "Atom, objective literal, literal and fold numbers are four numberings and never stand for one another."
 -- n is the number of atoms, a an atom, o an objective literal, l a literal.
-use Rattle.std.specs.Prelude.{ℕ, ◌+◌, ◌*◌, ◌/◌, ◌%◌, Bool, true, false, cond, ltb, eqb}
+use Rattle.std.specs.Prelude.{ℕ, ◌+◌, ◌*◌, ◌/◌, ◌%◌, Bool, true, false, cond, ltb, eqb, Option, Some, None}
 use Rattle.literals.specs.declared.Atom.{Atom}
 use Rattle.literals.specs.declared.forms.Form.{Form}
 use Rattle.literals.specs.declared.forms.Form.TheVariants as form
-use Rattle.literals.specs.declared.forms.FormOf.{FormOf}
-use Rattle.literals.specs.declared.forms.FormOf.TheVariants as form_of
 use Rattle.literals.specs.Section21.{conj_e, conj_d}
 
 -- "objective literal 2a is atom a"
@@ -58,9 +56,9 @@ unfoldable pub literal_form : ℕ → Form
 literal_form l = form_by (default_negated l) (explicitly_negated (objective_number l)) (record { 0 = atom_number (objective_number l) })
 
 -- the objective literal that conj_E gives; where it gives none, which is never so of an objective literal (`explicit_never_none`), o
-unfoldable pub objective_or : ℕ → FormOf → ℕ
-objective_or o (form_of.Is l) = objective_number (number_of l)
-objective_or o form_of.Nothing = o
+unfoldable pub objective_or : ℕ → Option Form → ℕ
+objective_or o (Some l) = objective_number (number_of l)
+objective_or o None = o
 
 -- "these two are conjugates": conj_E by the numbers of objective literals
 unfoldable pub explicit_conjugate : ℕ → ℕ
@@ -83,8 +81,8 @@ abbrev pub literal_listed : ℕ → ℕ → Bool
 literal_listed n l = ltb l (4 * n)
 
 -- and these have a form
-abbrev pub listed_form : ℕ → ℕ → FormOf
-listed_form n l = cond (literal_listed n l) (form_of.Is (literal_form l)) form_of.Nothing
+abbrev pub listed_form : ℕ → ℕ → Option Form
+listed_form n l = cond (literal_listed n l) (Some (literal_form l)) None
 
 -- "Judged literals: N = 2n+1"
 abbrev pub judged : ℕ → ℕ

@@ -5,19 +5,12 @@ ghost use Rattle.literals.specs.Numbering.{literal_form, listed_form, literal, n
 
 use crate::{Atom, Literal, Objective, is_listed, is_literal_listed};
 
-#[derive(Clone, Copy)]
+#[derive(Clone, Copy, PartialEq, Eq, Debug)]
 pub enum Form {
     Atom(Atom),
     NegatedAtom(Atom),
     NotAtom(Atom),
     NotNegatedAtom(Atom),
-}
-
-// What has no form is answered by `Nothing`.
-#[derive(Clone, Copy)]
-pub enum FormOf {
-    Is(Form),
-    Nothing,
 }
 
 // The form of a literal whose atom is one of 16 bits.
@@ -26,8 +19,7 @@ fn literal_form(l: Literal) -> Form
     ensures { result ≡ literal_form l.0 }
 {
     let atom = Atom((l.0 / 4) as u16);
-    let place = l.0 % 4;
-    match place {
+    match l.0 % 4 {
         0 => Form::Atom(atom),
         1 => Form::NotAtom(atom),
         2 => Form::NegatedAtom(atom),
@@ -36,50 +28,48 @@ fn literal_form(l: Literal) -> Form
 }
 
 // The form of a literal. A number that is not below 4n has none.
-pub fn form_of(l: Literal, atoms: u16) -> FormOf
+pub fn form_of(l: Literal, atoms: u16) -> Option<Form>
     ensures { result ≡ listed_form atoms l.0 }
 {
     if is_literal_listed(l, atoms) {
-        let form = literal_form(l);
-        FormOf::Is(form)
+        Some(literal_form(l))
     } else {
-        FormOf::Nothing
+        None
     }
 }
 
 // The form of an objective literal, which is that of its literal. Falsum, and a number past it, has none.
-pub fn objective_form(o: Objective, atoms: u16) -> FormOf
+pub fn objective_form(o: Objective, atoms: u16) -> Option<Form>
     ensures { result ≡ listed_form atoms (literal o.0) }
 {
-    if !is_listed(o, atoms) {
-        return FormOf::Nothing;
-    }
-    let number = 2 * o.0;
-    let itself = literal_form(Literal(number));
-    FormOf::Is(itself)
-}
-
-// The atom of a form.
-fn atom_in(l: Form) -> Atom
-    ensures { result.0 ≡ number_of l / 4 }
-{
-    match l {
-        Form::Atom(a) => a,
-        Form::NegatedAtom(a) => a,
-        Form::NotAtom(a) => a,
-        Form::NotNegatedAtom(a) => a,
+    if is_listed(o, atoms) {
+        Some(literal_form(Literal(2 * o.0)))
+    } else {
+        None
     }
 }
 
-// Which of the four literals of its atom it is, 4a to 4a+3.
-fn place_in(l: Form) -> usize
-    ensures { result ≡ number_of l % 4 }
-{
-    match l {
-        Form::Atom(_) => 0,
-        Form::NegatedAtom(_) => 2,
-        Form::NotAtom(_) => 1,
-        Form::NotNegatedAtom(_) => 3,
+impl Form {
+    #[tactic(auto, unfolding(crate::specs::Numbering::number_of))]
+    fn atom(self) -> Atom
+        ensures { result.0 ≡ number_of self / 4 }
+    {
+        match self {
+            Form::Atom(a) | Form::NegatedAtom(a) | Form::NotAtom(a) | Form::NotNegatedAtom(a) => a,
+        }
+    }
+
+    // Which of the four literals of its atom it is, 4a to 4a+3.
+    #[tactic(auto, unfolding(crate::specs::Numbering::number_of))]
+    fn place(self) -> usize
+        ensures { result ≡ number_of self % 4 }
+    {
+        match self {
+            Form::Atom(_) => 0,
+            Form::NegatedAtom(_) => 2,
+            Form::NotAtom(_) => 1,
+            Form::NotNegatedAtom(_) => 3,
+        }
     }
 }
 
@@ -87,7 +77,5 @@ fn place_in(l: Form) -> usize
 pub fn literal_number(l: Form) -> Literal
     ensures { result.0 ≡ number_of l }
 {
-    let atom = atom_in(l);
-    let place = place_in(l);
-    Literal(4 * (atom.0 as usize) + place)
+    Literal(4 * usize::from(l.atom().0) + l.place())
 }
