@@ -31,22 +31,14 @@ fn literal_form(l: Literal) -> Form
 pub fn form_of(l: Literal, atoms: u16) -> Option<Form>
     ensures { result ≡ listed_form atoms l.0 }
 {
-    if is_literal_listed(l, atoms) {
-        Some(literal_form(l))
-    } else {
-        None
-    }
+    is_literal_listed(l, atoms).then(|| literal_form(l))
 }
 
 // The form of an objective literal, which is that of its literal. Falsum, and a number past it, has none.
 pub fn objective_form(o: Objective, atoms: u16) -> Option<Form>
     ensures { result ≡ listed_form atoms (literal o.0) }
 {
-    if is_listed(o, atoms) {
-        Some(literal_form(Literal(2 * o.0)))
-    } else {
-        None
-    }
+    is_listed(o, atoms).then(|| literal_form(Literal(2 * o.0)))
 }
 
 impl Form {
