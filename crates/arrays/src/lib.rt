@@ -3,27 +3,18 @@
 
 ghost use Rattle.std.specs.Prelude.{◌≡◌, ◌<◌, get_or, set};
 
-// A number with its bound, for callers.
-pub fn wide(number: u16) -> usize
-    ensures { (result ≡ number) × (result < 65536) }
-{
-    number as usize
-}
-
 // The number at a place; `other` where the array ends before it.
 pub fn get(numbers: &[u16], at: usize, other: u16) -> usize
     ensures { (result ≡ get_or numbers.now at other) × (result < 65536) }
 {
-    if at < numbers.len() {
-        return wide(numbers[at]);
-    }
-    wide(other)
+    usize::from(numbers.get(at).copied().unwrap_or(other))
 }
 
 // A number put at a place; nothing where the array ends before it.
 pub fn put(numbers: &mut [u16], at: usize, number: u16)
     ensures { numbers.new ≡ set numbers.old at number }
 {
+    // By its index: `get_mut` promises nothing of what the array is afterwards.
     if at < numbers.len() {
         numbers[at] = number;
     }

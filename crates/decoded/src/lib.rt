@@ -4,7 +4,6 @@
 ghost use Rattle.std.specs.Prelude.{◌≡◌, ◌<◌, length, get_or};
 ghost use Rattle.literals.specs.BodyLiterals.{body_literal};
 
-use arrays::wide;
 use literals::Objective;
 use literals::bodies::{BodyLiteral, body_literal};
 
@@ -13,7 +12,7 @@ pub fn number_in(row: &[u16], place: usize) -> usize
     requires { place < length row.now }
     ensures { (result ≡ get_or row.now place 0) × (result < 65536) }
 {
-    wide(row[place])
+    usize::from(row[place])
 }
 
 // An objective literal: a rule's head, or what an entry is of.

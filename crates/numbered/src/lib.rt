@@ -8,21 +8,12 @@ ghost use Rattle.papers.specs.Field.{number_in};
 use literals::bodies::{BodyLiteral, body_literal};
 use literals::{Atom, Literal, Objective};
 
-// A byte as a number, with its bound.
-fn wide(b: u8) -> usize
-    ensures { (result ≡ b) × (result < 256) }
-{
-    b as usize
-}
-
 // The two-byte number at a place, high byte first.
 pub fn number_at(bytes: &[u8], place: usize) -> usize
     requires { place + 1 < length bytes.now }
     ensures { (result ≡ number_in bytes.now place) × (result < 65536) }
 {
-    let high = wide(bytes[place]);
-    let low = wide(bytes[place + 1]);
-    high * 256 + low
+    usize::from(u16::from_be_bytes([bytes[place], bytes[place + 1]]))
 }
 
 // An atom, of the abducibles.
@@ -50,6 +41,7 @@ pub fn literal_at(bytes: &[u8], place: usize) -> Literal
 }
 
 // A literal of a body: a number or u.
+#[tactic(auto, using(literals::proofs::BodyLaws::number_back))]
 pub fn body_literal_at(bytes: &[u8], place: usize) -> BodyLiteral
     requires { place + 1 < length bytes.now }
     ensures { (result ≡ body_literal (number_in bytes.now place)) × (body_number result < 65536) }

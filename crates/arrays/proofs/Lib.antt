@@ -1,2 +1,0 @@
--- What is read past the end of an array.
-mod ArrayLaws
