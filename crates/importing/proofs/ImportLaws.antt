@@ -17,7 +17,7 @@ use Rattle.papers.specs.Valid.{All, none, each, ValidBody, ValidRule, Valid}
 use Rattle.papers.proofs.Lists.{all_map, all_each}
 use Rattle.papers.proofs.Sizes.{length_file, file_bound}
 use Rattle.dual.specs.Bytes.{filled}
-use Rattle.text.specs.declared.TextRefusal.{TextRefusal}
+use Rattle.text.specs.Lines.{TextRefusal}
 use Rattle.text.specs.Lines.{Reading, accepted, refused, Line, abducible, rule, integrity, lines_of}
 use Rattle.text.specs.Typed.{Placed, placed, its, rules_in, integrity_in, named_in, count_of, rising_from, program_typed}
 use Rattle.text.specs.Importing.{check_run, import_text}

@@ -27,7 +27,7 @@ use Rattle.text.specs.LineAnswers.{LineTells}
 use Rattle.text.proofs.ReadBack.{heading_is}
 use Rattle.text.proofs.BriefLaws.{named_append}
 use Rattle.text.proofs.Fitting.{RuleChecked, all_split, rules_checked, integrity_checked, count_above}
-use Rattle.text.specs.declared.TextRefusal.{TextRefusal}
+use Rattle.text.specs.Lines.{TextRefusal}
 use Rattle.importing.specs.declared.checking.RunChecked.{RunChecked}
 use Rattle.importing.specs.declared.checking.RunChecked.TheVariants.{Length, Refused}
 use Rattle.importing.specs.declared.checking.RunsChecked.TheVariants as both

@@ -7,7 +7,7 @@ use native.Mathlib.Omega.{arith}
 use Rattle.text.specs.declared.line.Brief.{Brief}
 use Rattle.text.specs.declared.line.LineRead.{LineRead}
 use Rattle.text.specs.declared.line.LineRead.TheVariants as read
-use Rattle.text.specs.declared.TextRefusal.{TextRefusal}
+use Rattle.text.specs.Lines.{TextRefusal}
 use Rattle.text.specs.Lines.{Reading, accepted, refused, Line, fresh, lines_of}
 use Rattle.text.specs.Typed.{named_in, larger, count_of, program_typed}
 use Rattle.text.specs.Briefly.{brief}

@@ -8,7 +8,7 @@ use native.Mathlib.Omega.{arith}
 use borrow.Author.Tests.{eq-eqb, ne_eqb, le-leb}
 use lib.ListN.{length, get_or, drop, length-append}
 use Rattle.papers.specs.declared.Paper.TheVariants.{File}
-use Rattle.papers.specs.declared.Refusal.{Refusal}
+use Rattle.papers.specs.Outcome.{Refusal}
 use Rattle.papers.specs.Program.{Program}
 use Rattle.papers.specs.Outcome.{Outcome, refusal}
 use Rattle.papers.specs.Outcome as file
@@ -21,7 +21,7 @@ use Rattle.papers.proofs.NumberLaws.{numbers_encoded, length_encoded}
 use Rattle.papers.proofs.Sizes.{length_field}
 use Rattle.papers.proofs.ContentLaws.{edition_fits}
 use Rattle.papers.proofs.Encoded.{size_encoded, content_encoded, field_encoded, after_field, after_numbers, after_run}
-use Rattle.text.specs.declared.TextRefusal.{TextRefusal}
+use Rattle.text.specs.Lines.{TextRefusal}
 use Rattle.text.specs.Lines.{Reading, accepted, refused, text_refusal, passing, Line, lines_of}
 use Rattle.text.specs.Typed.{Placed, its, declared_in, rules_in, integrity_in, program_typed}
 use Rattle.text.specs.Importing.{heading_fault, overfull_at, check_run, check_typed, import_text}

@@ -9,6 +9,8 @@ use native.Mathlib.Omega.{arith}
 use borrow.Author.Tests.{lt-ltb, le-ltb}
 use lib.ListN.{length, length-append}
 use Rattle.literals.specs.Numbering.{positive, negative, literal, default_negation}
+use Rattle.text.specs.declared.line.LineKind.{LineKind}
+use Rattle.text.specs.declared.line.LineKind.TheVariants as types
 use Rattle.text.specs.declared.line.Brief.{Brief}
 use Rattle.text.specs.declared.line.Stage.TheVariants as stage
 use Rattle.text.specs.declared.line.Move.{Move}
@@ -16,8 +18,8 @@ use Rattle.text.specs.declared.line.Move.TheVariants.{Goes}
 use Rattle.text.specs.Lines.{Line, abducible, rule, integrity, also, State, fresh, declaring, declared, negated, headed, due, denied, negated_in}
 use Rattle.text.specs.Lines.{denied_negated, said, Step, is_atom, is_minus, is_not, is_arrow, is_comma, is_stop, is_abducible, is_false, step}
 use Rattle.text.specs.Typed.{atoms_of, named_in, larger, count_of}
-use Rattle.text.specs.Briefly.{tag_of, start_of, atom_of, numbers_of, few, briefly, brief, stage_of, move_of, denial_briefly, opened_briefly, also_briefly}
-use Rattle.text.specs.Briefly.{step_briefly}
+use Rattle.text.specs.Briefly.{tag_of, kind_of_line, tag_byte, start_of, atom_of, numbers_of, few, briefly, brief, stage_of, move_of}
+use Rattle.text.specs.Briefly.{denial_briefly, opened_briefly, also_briefly, step_briefly}
 use Rattle.text.proofs.Fitting.{count_some}
 
 -- ---- how many numbers
@@ -91,39 +93,48 @@ above_more : (line : Line) (a l : ℕ) → (tag_of line ≡ 0x03 → ⊥) → l 
 unfolding named_in tag_of
 above_more (abducible start b) a l h e = absurd (h refl)
 above_more (rule start head body) a l h e =
-    body_counted (head / 2 ∷ (atoms_of (body ++ (l ∷ [])) ++ [])) (head / 2 ∷ (atoms_of body ++ [])) a (ap (λ (x : List ℕ). head / 2 ∷ x) (body_named body a l e))
+    let named = ap (λ (x : List ℕ). head / 2 ∷ x) (body_named body a l e) in
+    body_counted (head / 2 ∷ (atoms_of (body ++ (l ∷ [])) ++ [])) (head / 2 ∷ (atoms_of body ++ [])) a named
 above_more (integrity start body) a l h e = body_counted (atoms_of (body ++ (l ∷ [])) ++ []) (atoms_of body ++ []) a (body_named body a l e)
+
+-- ---- the tag of its field
+
+pub kind_tag : (line : Line) → tag_byte (kind_of_line line) ≡ tag_of line
+unfolding kind_of_line tag_of
+kind_tag (abducible start a) = refl
+kind_tag (rule start head body) = refl
+kind_tag (integrity start body) = refl
 
 -- ---- a line with one more literal
 
-grown : (tag start atom above new : ℕ) (ns : List ℕ) (l : ℕ) → new ≡ above
-    → briefly tag start atom new (few (length (ns ++ (l ∷ [])))) ≡ briefly tag start atom above (few (few (length ns) + 1))
-grown tag start atom above new ns l e =
+grown : (kind : LineKind) (start atom above new : ℕ) (ns : List ℕ) (l : ℕ) → new ≡ above
+    → briefly kind start atom new (few (length (ns ++ (l ∷ [])))) ≡ briefly kind start atom above (few (few (length ns) + 1))
+grown kind start atom above new ns l e =
     let size : length (ns ++ (l ∷ [])) ≡ length ns + 1 = length-append ns (l ∷ []) in
     rw (e, size, few_more (length ns))
 
 brief_also : (line : Line) (a l : ℕ) → l / 4 ≡ a → brief (also line l) ≡ also_briefly (brief line) a
-unfolding brief also_briefly tag_of start_of atom_of numbers_of
+unfolding brief also_briefly kind_of_line start_of atom_of numbers_of
 brief_also (abducible start b) a l e = refl
 brief_also (rule start head body) a l e =
-    grown 0x04 start (head / 2) _ _ (head ∷ body) l (above_more (rule start head body) a l (unfold tag_of in λ q. omega arith) e)
-brief_also (integrity start body) a l e = grown 0x05 start 0 _ _ body l (above_more (integrity start body) a l (unfold tag_of in λ q. omega arith) e)
+    grown types.Rule start (head / 2) _ _ (head ∷ body) l (above_more (rule start head body) a l (unfold tag_of in λ q. omega arith) e)
+brief_also (integrity start body) a l e = grown types.Integrity start 0 _ _ body l (above_more (integrity start body) a l (unfold tag_of in λ q. omega arith) e)
 
 said_brief : (line : Line) (a l : ℕ) → l / 4 ≡ a → Goes (stage.Said (brief (also line l))) ≡ Goes (stage.Said (also_briefly (brief line) a))
 said_brief line a l q = ap (λ (b : Brief). Goes (stage.Said b)) (brief_also line a l q)
 
 -- ---- a line that begins
 
-rule_opened : (start head a : ℕ) → head / 2 ≡ a → brief (rule start head []) ≡ opened_briefly 0x04 start a
-unfolding brief tag_of start_of atom_of numbers_of named_in few atoms_of
+rule_opened : (start head a : ℕ) → head / 2 ≡ a → brief (rule start head []) ≡ opened_briefly types.Rule start a
+unfolding brief kind_of_line start_of atom_of numbers_of named_in few atoms_of
 rule_opened start head a e = rw (e, one_counted a)
 
-declared_opened : (start a : ℕ) → brief (abducible start a) ≡ opened_briefly 0x03 start a
-unfolding brief tag_of start_of atom_of numbers_of named_in few
+declared_opened : (start a : ℕ) → brief (abducible start a) ≡ opened_briefly types.Abducible start a
+unfolding brief kind_of_line start_of atom_of numbers_of named_in few
 declared_opened start a = rw (one_counted a)
 
 denied_opened : (start : ℕ) → brief (integrity start []) ≡ denial_briefly start
-unfolding brief tag_of start_of atom_of numbers_of named_in few atoms_of count_of
+unfolding brief kind_of_line start_of atom_of numbers_of named_in few atoms_of count_of
 denied_opened start = refl
 
 -- ---- what a token does

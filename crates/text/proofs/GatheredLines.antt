@@ -5,8 +5,8 @@ use mathlib.Core.List.{List, [], ◌∷◌}
 use Prim.Native.Nat.{ℕ, ◌≤◌, ◌<◌}
 use native.Mathlib.Omega.{arith}
 use lib.ListN.{length, drop, set, length-drop}
-use Rattle.text.specs.declared.Scanned.{Scanned}
-use Rattle.text.specs.declared.Scanned.TheVariants.{Token, Stray, End}
+use lib.Seq.{set_out}
+use Rattle.text.specs.Tokens.{Token, Stray, End}
 use Rattle.text.specs.declared.line.Stage.{Stage}
 use Rattle.text.specs.declared.line.Stage.TheVariants as stage
 use Rattle.text.specs.declared.line.Move.{Move}
@@ -18,9 +18,8 @@ use Rattle.text.specs.Briefly.{numbers_of, stage_of, move_of, step_briefly}
 use Rattle.text.specs.LineAnswers.{lines_at}
 use Rattle.text.specs.LineNumbers.{padded, place_said, number_said, NumbersTell}
 use Rattle.text.proofs.Readings.{refused_not, through}
-use Rattle.text.proofs.Stepping.{found}
 use Rattle.text.proofs.LineLaws.{goes_told, follow_goes, follow_ends, follow_bars, stray_told, here, token_bounds, met, stepped}
-use Rattle.text.proofs.Gathering.{numbers_in, Sound, Gathers, gathers}
+use Rattle.text.proofs.Gathering.{padded_length, numbers_in, Sound, Gathers, gathers}
 
 pub record Gathered (text : List ℕ) (from : ℕ) (stage : Stage) (at : ℕ) (numbers : List ℕ) : Type 0 where
   pub state : State
@@ -50,21 +49,19 @@ no_line (negated_in line) place e = refused_not e
 no_line (denied_negated line) place e = refused_not e
 no_line (said line) place e = refused_not e
 
-module _ {text : List ℕ} {from : ℕ} {stage : Stage} {at : ℕ} {numbers : List ℕ} (g : Gathered text from stage at numbers) {scanned : Scanned}
-    (n : scanned ≡ next_token at (drop at text)) where
+module _ {text : List ℕ} {from : ℕ} {stage : Stage} {at : ℕ} {numbers : List ℕ} (g : Gathered text from stage at numbers) where
   abbrev s : State
   s = g.state
 
   -- No token: there is no line here.
-  pub gathered_none : ((kind value start after : ℕ) → scanned ≡ Token kind value start after → ⊥) → NumbersTell text from numbers
-  gathered_none k line rest e = go scanned refl (sym (here text at g.within n s) ∙ sym g.reads ∙ e)
-    where
-      go : (x : Scanned) → scanned ≡ x → lines_from s (found text x) ≡ accepted (line ∷ rest) → numbers ≡ padded 17 (numbers_of line)
-      go (Token kind value start after) i q = absurd (k kind value start after i)
-      go (Stray place) i q = refused_not (sym (stray_told s place) ∙ q)
-      go (End place) i q = no_line s place q
+  pub gathered_stray : {place : ℕ} → next_token at (drop at text) ≡ Stray place → NumbersTell text from numbers
+  gathered_stray {place} t line rest e = refused_not (sym (stray_told s place) ∙ sym (here text at g.within t s) ∙ sym g.reads ∙ e)
 
-  module _ {kind value start after : ℕ} (t : scanned ≡ Token kind value start after) {moved : Move} (m : moved ≡ step_briefly stage start kind value) where
+  pub gathered_over : {place : ℕ} → next_token at (drop at text) ≡ End place → NumbersTell text from numbers
+  gathered_over {place} t line rest e = no_line s place (sym (here text at g.within t s) ∙ sym g.reads ∙ e)
+
+  module _ {kind value start after : ℕ} (t : next_token at (drop at text) ≡ Token kind value start after) {moved : Move}
+      (m : moved ≡ step_briefly stage start kind value) where
     abbrev taken : Step
     taken = step s start kind value
 
@@ -72,26 +69,32 @@ module _ {text : List ℕ} {from : ℕ} {stage : Stage} {at : ℕ} {numbers : Li
     does = gathers s start kind value g.sound
 
     is_moved : move_of taken ≡ moved
-    is_moved = stepped text at g.within n t m s g.staged
+    is_moved = stepped text at g.within t m s g.staged
 
     pub gathered_less : at < after
-    gathered_less = let b = token_bounds text at g.within n t in omega arith
+    gathered_less = let b = token_bounds text at g.within t in omega arith
 
-    pub gathered_on : {later : Stage} {more : List ℕ} {place number : ℕ} → moved ≡ Goes later → place ≡ place_said stage kind
-        → number ≡ number_said stage value → more ≡ set numbers place number → Gathered text from later after more
-    gathered_on {later} {more} {place} {number} e p v w =
+    -- Where the token says no number, none is written.
+    pub gathered_same : place_said stage kind ≡ 17 → numbers ≡ set numbers (place_said stage kind) (number_said stage value)
+    gathered_same p =
+        let l = ap length g.held ∙ padded_length 17 (numbers_in s) in
+        sym (set_out numbers (place_said stage kind) (number_said stage value) (omega arith))
+
+    pub gathered_on : {later : Stage} {more : List ℕ} → moved ≡ Goes later
+        → more ≡ set numbers (place_said stage kind) (number_said stage value) → Gathered text from later after more
+    gathered_on {later} {more} e w =
         let x = goes_told taken (is_moved ∙ e) in
-        let b = token_bounds text at g.within n t in
+        let b = token_bounds text at g.within t in
         let l = length-drop at text in
         let d : Gathers s kind value (goes x.0) = rw x.1 at does in
         record {
           state = x.0;
           staged = x.2;
           sound = d.0;
-          reads = g.reads ∙ met text at g.within n t s ∙ follow_goes s start kind value (tokens_from after 0 (drop after text)) x.1;
+          reads = g.reads ∙ met text at g.within t s ∙ follow_goes s start kind value (tokens_from after 0 (drop after text)) x.1;
           within = omega arith;
           held =
-              w ∙ ap (λ (k : ℕ). set numbers k number) p ∙ ap (set numbers (place_said stage kind)) v
+              w
               ∙ ap (λ (o : List ℕ). set o (place_said stage kind) (number_said stage value)) g.held
               ∙ ap (λ (o : Stage). set (padded 17 (numbers_in s)) (place_said o kind) (number_said o value)) g.staged ∙ sym d.1;
         }
@@ -101,7 +104,7 @@ module _ {text : List ℕ} {from : ℕ} {stage : Stage} {at : ℕ} {numbers : Li
     gathered_done k line rest e = go taken refl does
       where
         ahead : lines_from s (token start kind value (tokens_from after 0 (drop after text))) ≡ accepted (line ∷ rest)
-        ahead = sym (met text at g.within n t s) ∙ sym g.reads ∙ e
+        ahead = sym (met text at g.within t s) ∙ sym g.reads ∙ e
 
         go : (x : Step) → taken ≡ x → Gathers s kind value x → numbers ≡ padded 17 (numbers_of line)
         go (goes later) q d = absurd (k (stage_of later) (sym is_moved ∙ ap move_of q))

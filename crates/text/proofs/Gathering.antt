@@ -147,7 +147,8 @@ gathers (due line) place kind a h =
     (λ n. chosen (due line) kind a (is_atom kind) _ _
     (λ e. let l = literal (positive a) in (also_sound line l h, adds (stage_of (due line)) line kind l (4 * a) h e refl (omega arith))) (λ n. tt)))
 gathers (denied line) place kind a h =
-    chosen (denied line) kind a (is_minus kind) _ _ (λ e. (h, quiet (stage_of (denied line)) kind 0x2D e (not_atom (omega arith)) (numbers_of line) (4 * a + 1)))
+    chosen (denied line) kind a (is_minus kind) _ _
+    (λ e. (h, quiet (stage_of (denied line)) kind 0x2D e (not_atom (omega arith)) (numbers_of line) (4 * a + 1)))
     (λ n. chosen (denied line) kind a (is_atom kind) _ _
     (λ e. let l = default_negation (positive a) in (also_sound line l h, adds (stage_of (denied line)) line kind l (4 * a + 1) h e refl (omega arith)))
     (λ n. tt))

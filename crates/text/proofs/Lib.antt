@@ -2,6 +2,7 @@
 
 -- One law for each answer about a token, over plain variables.
 pub mod TokenLaws
+pub mod WordLaws
 -- The tokens of a text are the next token again and again; where each lies, and that its number is small.
 pub mod Stepping
 -- ---- lines

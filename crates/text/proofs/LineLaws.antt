@@ -6,20 +6,24 @@ use mathlib.Core.List.{List, [], ◌∷◌}
 use Prim.Native.Nat.{ℕ, ◌≤◌, ◌<◌}
 use native.Mathlib.Omega.{arith}
 use lib.ListN.{length, drop, length-drop}
-use Rattle.text.specs.declared.Scanned.{Scanned}
-use Rattle.text.specs.declared.Scanned.TheVariants.{Token, Stray, End}
+use Rattle.std.proofs.Common.{Option, Some, None, Ok, Err}
+use Rattle.text.specs.Tokens.{Scanned}
+use Rattle.text.specs.Tokens.{Token, End}
+use Rattle.text.specs.declared.TextFault.{TextFault}
+use Rattle.text.specs.declared.TextFault.TheVariants as fault
+use Rattle.text.specs.declared.TextRefusal as answer
+use Rattle.text.specs.declared.token.Scanned as answer_token
 use Rattle.text.specs.declared.line.Brief.{Brief}
 use Rattle.text.specs.declared.line.Stage.{Stage}
 use Rattle.text.specs.declared.line.Stage.TheVariants as stage
 use Rattle.text.specs.declared.line.Move.{Move}
 use Rattle.text.specs.declared.line.Move.TheVariants.{Goes, Ends, Bars}
-use Rattle.text.specs.declared.line.LineRead.{LineRead}
-use Rattle.text.specs.declared.line.LineRead.TheVariants as read
 use Rattle.text.specs.Tokens.{next_token, Tokens, token, stray, end, tokens_from}
 use Rattle.text.specs.Lines.{accepted, refused, text_refusal, and_then, Line, State, fresh, declaring, declared, negated, headed, due, denied}
 use Rattle.text.specs.Lines.{negated_in, denied_negated, said, Step, goes, ends, bars, step, lines_from}
 use Rattle.text.specs.Briefly.{brief, stage_of, move_of, step_briefly, is_fresh}
-use Rattle.text.specs.LineAnswers.{lines_at, LineTells, ended_briefly}
+use Rattle.text.specs.LineAnswers.{lines_at, LineEnds, LineTells, ended_briefly}
+use Rattle.text.specs.Told.{text_fault_number, refusal_of, kind_of, number_of, NextTells}
 use Rattle.text.proofs.BriefLaws.{step_brief}
 use Rattle.text.proofs.Stepping.{found, tokens_step, Bounds, next_bounds}
 
@@ -96,19 +100,23 @@ over_told s place e = rw e
 
 -- ---- the answers
 
-module _ (text : List ℕ) (at : ℕ) (fits : at ≤ length text) {scanned : Scanned} (n : scanned ≡ next_token at (drop at text)) where
-  pub here : (s : State) → lines_at text s at ≡ lines_from s (found text scanned)
-  here s = ap (lines_from s) (tokens_step text at) ∙ (rw (← n))
+module _ (text : List ℕ) (at : ℕ) {got : Option answer_token.Scanned} (n : NextTells text at (Ok got)) where
+  pub next_is : {s : answer_token.Scanned} → got ≡ Some s → next_token at (drop at text) ≡ Token (kind_of s.token) (number_of s.token) s.start s.end
+  next_is e = rw e at n
 
-  module _ {kind value start after : ℕ} (t : scanned ≡ Token kind value start after) where
+  pub next_over : got ≡ None → next_token at (drop at text) ≡ End (length text)
+  next_over e = rw e at n
+
+module _ (text : List ℕ) (at : ℕ) (fits : at ≤ length text) where
+  pub here : {next : Scanned} → next_token at (drop at text) ≡ next → (s : State) → lines_at text s at ≡ lines_from s (found text next)
+  here t s = ap (lines_from s) (tokens_step text at) ∙ ap (λ (x : Scanned). lines_from s (found text x)) t
+
+  module _ {kind value start after : ℕ} (t : next_token at (drop at text) ≡ Token kind value start after) where
     pub token_bounds : Bounds at (drop at text) value start after
-    token_bounds = next_bounds (drop at text) at (sym n ∙ t)
-
-    pub token_value : value ≤ 255
-    token_value = token_bounds.small
+    token_bounds = next_bounds (drop at text) at t
 
     pub met : (s : State) → lines_at text s at ≡ lines_from s (token start kind value (tokens_from after 0 (drop after text)))
-    met s = here s ∙ ap (λ (x : Scanned). lines_from s (found text x)) t
+    met s = here t s
 
     module _ {stage : Stage} {moved : Move} (m : moved ≡ step_briefly stage start kind value) where
       pub stepped : (s : State) → stage ≡ stage_of s → move_of (step s start kind value) ≡ moved
@@ -126,54 +134,56 @@ pub record Gone (text : List ℕ) (from : ℕ) (stage : Stage) (at : ℕ) : Type
 pub gone_start : {text : List ℕ} {from : ℕ} → from ≤ length text → Gone text from stage.Fresh from
 gone_start h = record { state = fresh; staged = refl; reads = refl; later = omega arith; within = h }
 
-module _ {text : List ℕ} {from : ℕ} {stage : Stage} {at : ℕ} (g : Gone text from stage at) {scanned : Scanned}
-    (n : scanned ≡ next_token at (drop at text)) where
+module _ {text : List ℕ} {from : ℕ} {stage : Stage} {at : ℕ} (g : Gone text from stage at) where
   abbrev s : State
   s = g.state
 
   -- No token: a stray character, or the end of the text.
-  pub gone_stray : {place : ℕ} → scanned ≡ Stray place → LineTells text fresh from (read.Refused (text_refusal 17 place))
-  gone_stray {place} t = g.reads ∙ here text at g.within n s ∙ ap (λ (x : Scanned). lines_from s (found text x)) t ∙ stray_told s place
+  pub gone_stray : {r : answer.TextRefusal} → NextTells text at (Err r) → lines_at text fresh from ≡ refused (refusal_of r)
+  gone_stray {r} n =
+      g.reads ∙ here text at g.within n.1 s ∙ stray_told s r.place
+      ∙ ap (λ (f : TextFault). refused (text_refusal (text_fault_number f) r.place)) (sym n.0)
 
-  pub gone_over : {place : ℕ} → scanned ≡ End place → {answer : LineRead} → answer ≡ ended_briefly stage place → LineTells text fresh from answer
+  pub gone_over : {place : ℕ} → next_token at (drop at text) ≡ End place → LineTells text fresh from (ended_briefly stage place)
   unfolding ended_briefly
-  gone_over {place} t {answer} e = rw e (go (is_fresh stage) refl)
+  gone_over {place} t = go (is_fresh stage) refl
     where
       at_end : lines_at text fresh from ≡ lines_from s (end place)
-      at_end = g.reads ∙ here text at g.within n s ∙ ap (λ (x : Scanned). lines_from s (found text x)) t
+      at_end = g.reads ∙ here text at g.within t s
 
-      go : (b : Bool) → is_fresh stage ≡ b → LineTells text fresh from (cond b read.End (read.Refused (text_refusal 18 place)))
+      go : (b : Bool) → is_fresh stage ≡ b → LineTells text fresh from (cond b (Ok None) (Err (record { fault = fault.Line; place = place })))
       go true f = at_end ∙ over_told s place (fresh_told_lem s (ap is_fresh (sym g.staged) ∙ f))
       go false f = at_end ∙ inside_told s place (ap is_fresh (sym g.staged) ∙ f)
 
-  module _ {kind value start after : ℕ} (t : scanned ≡ Token kind value start after) {moved : Move} (m : moved ≡ step_briefly stage start kind value) where
+  module _ {kind value start after : ℕ} (t : next_token at (drop at text) ≡ Token kind value start after) {moved : Move}
+      (m : moved ≡ step_briefly stage start kind value) where
     is_moved : move_of (step s start kind value) ≡ moved
-    is_moved = stepped text at g.within n t m s g.staged
+    is_moved = stepped text at g.within t m s g.staged
 
     abbrev rest : Tokens
     rest = tokens_from after 0 (drop after text)
 
     reached : lines_at text fresh from ≡ lines_from s (token start kind value rest)
-    reached = g.reads ∙ met text at g.within n t s
+    reached = g.reads ∙ met text at g.within t s
 
     pub gone_less : at < after
-    gone_less = let b = token_bounds text at g.within n t in omega arith
+    gone_less = let b = token_bounds text at g.within t in omega arith
 
     pub gone_on : {later : Stage} → moved ≡ Goes later → Gone text from later after
     gone_on e =
         let x = goes_told (step s start kind value) (is_moved ∙ e) in
-        let b = token_bounds text at g.within n t in
+        let b = token_bounds text at g.within t in
         let l = length-drop at text in
         let before = g.later in
         record { state = x.0; staged = x.2; reads = reached ∙ follow_goes s start kind value rest x.1; later = omega arith; within = omega arith }
 
-    pub gone_ends : {b : Brief} → moved ≡ Ends b → LineTells text fresh from (read.Line b after)
+    pub gone_ends : {b : Brief} → moved ≡ Ends b → LineEnds text fresh from b after
     gone_ends e =
         let x = ends_told (step s start kind value) (is_moved ∙ e) in
-        let bounds = token_bounds text at g.within n t in
+        let bounds = token_bounds text at g.within t in
         let l = length-drop at text in
         let before = g.later in
         record { line = x.0; briefly = x.2; reads = reached ∙ follow_ends s start kind value rest x.1; later = omega arith; within = omega arith }
 
-    pub gone_bars : moved ≡ Bars → LineTells text fresh from (read.Refused (text_refusal 18 start))
+    pub gone_bars : moved ≡ Bars → lines_at text fresh from ≡ refused (text_refusal 18 start)
     gone_bars e = reached ∙ follow_bars s start kind value rest (bars_told (step s start kind value) (is_moved ∙ e))

@@ -16,7 +16,7 @@ use Rattle.papers.specs.Field.{fewest, most, length_allowed}
 use Rattle.papers.specs.Content.{is_among}
 use Rattle.papers.specs.Valid.{All, none, each}
 use Rattle.text.specs.Lines.{accepted, refused, passing, Line, abducible, rule, integrity, lines_of}
-use Rattle.text.specs.declared.TextRefusal.{TextRefusal}
+use Rattle.text.specs.Lines.{TextRefusal}
 use Rattle.text.specs.Typed.{its, declared_in, rules_in, integrity_in, atoms_of, named_in, count_of, rising_from, program_typed}
 use Rattle.text.specs.Importing.{overfull_at, check_run, check_typed, import_text}
 use Rattle.text.proofs.ReadBack.{heading_is}

@@ -3,7 +3,7 @@
 use mathlib.Core.Path.{◌≡◌, refl}
 use Prim.Native.Nat.{ℕ, zero, suc}
 use native.Mathlib.Omega.{arith}
-use Rattle.text.specs.declared.TextRefusal.{TextRefusal}
+use Rattle.text.specs.Lines.{TextRefusal}
 use Rattle.text.specs.Lines.{Reading, accepted, refused, passing, and_then}
 
 module _ {A : Type 0} where

@@ -12,7 +12,7 @@ use Rattle.papers.specs.Outcome.{check}
 use Rattle.papers.specs.Field.{length_allowed}
 use Rattle.papers.specs.Content.{body_fault, is_among, atoms_fault, abducibles_fault}
 use Rattle.papers.specs.Valid.{All, none, each}
-use Rattle.text.specs.declared.TextRefusal.{TextRefusal}
+use Rattle.text.specs.Lines.{TextRefusal}
 use Rattle.text.specs.Tokens.{Tokens, token, stray, end}
 use Rattle.text.specs.Lines.{Reading, accepted, refused, passing, and_then, Line, State, fresh, declaring, declared, negated, headed, due, denied}
 use Rattle.text.specs.Lines.{negated_in, denied_negated, said, Step, goes, ends, bars, follow, step, lines_from, lines_of}

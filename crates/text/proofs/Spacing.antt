@@ -62,7 +62,8 @@ also_said line l = ap (λ (l : Line). goes (said l)) (also_bare line l)
 step_bare : (s : State) (place kind a : ℕ) → bare_step (step s place kind a) ≡ step (bare_state s) 0 kind a
 unfolding step bare
 step_bare fresh place kind a =
-    picked (is_abducible kind) _ _ _ _ refl (picked (is_false kind) _ _ _ _ refl (picked (is_minus kind) _ _ _ _ refl (picked (is_atom kind) _ _ _ _ refl refl)))
+    picked (is_abducible kind) _ _ _ _ refl (picked (is_false kind) _ _ _ _ refl
+    (picked (is_minus kind) _ _ _ _ refl (picked (is_atom kind) _ _ _ _ refl refl)))
 step_bare (declaring start) place kind a = picked (is_atom kind) _ _ _ _ refl refl
 step_bare (declared line) place kind a = picked (is_stop kind) _ _ _ _ refl refl
 step_bare (negated start) place kind a = picked (is_atom kind) _ _ _ _ refl refl

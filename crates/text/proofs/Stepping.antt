@@ -11,8 +11,8 @@ use lib.ListN.{length, drop}
 use lib.Seq.{drop-drop}
 use Rattle.papers.proofs.Checks.{both}
 use Rattle.papers.proofs.Lists.{past_place}
-use Rattle.text.specs.declared.Scanned.{Scanned}
-use Rattle.text.specs.declared.Scanned.TheVariants.{Token, Stray, End}
+use Rattle.text.specs.Tokens.{Scanned}
+use Rattle.text.specs.Tokens.{Token, Stray, End}
 use Rattle.text.specs.Tokens.{is_blank, is_digit, digits, value, atom_allowed, atom_size, words, word_size, token_size, number_after, token_here, next_token}
 use Rattle.text.specs.Tokens.{Tokens, token, stray, end, token_then, tokens_from}
 use Rattle.text.proofs.TokenLaws.{words_size}
@@ -140,7 +140,8 @@ here_bounds at b more {kind} {value} {start} {after} e = go (token_size (b ∷ m
         let small = number_small b more (λ q. omega arith) in
         record { from = omega arith; some = omega arith; within = omega arith; small = omega arith }
 
-pub next_bounds : (bytes : List ℕ) (at : ℕ) {kind value start after : ℕ} → next_token at bytes ≡ Token kind value start after → Bounds at bytes value start after
+pub next_bounds : (bytes : List ℕ) (at : ℕ) {kind value start after : ℕ} → next_token at bytes ≡ Token kind value start after
+    → Bounds at bytes value start after
 unfolding next_token
 next_bounds [] at e = absurd (let z : ◌≡◌ {A = ℕ} 0 1 = cc in omega arith)
 next_bounds (b ∷ more) at {kind} {value} {start} {after} e = go (is_blank b) (λ f. next_bounds more (at + 1) f) e

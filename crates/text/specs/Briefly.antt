@@ -1,5 +1,7 @@
 -- The automaton of a line as the code runs it: of what a line says it holds all but the literals.
 use Rattle.std.specs.Prelude.{Bool, true, false, cond, List, [], ◌∷◌, ℕ, ◌+◌, ◌/◌, eqb, ltb, length}
+use Rattle.text.specs.declared.line.LineKind.{LineKind}
+use Rattle.text.specs.declared.line.LineKind.TheVariants as types
 use Rattle.text.specs.declared.line.Brief.{Brief}
 use Rattle.text.specs.declared.line.Stage.{Stage}
 use Rattle.text.specs.declared.line.Stage.TheVariants as stage
@@ -14,6 +16,17 @@ unfoldable pub tag_of : Line → ℕ
 tag_of (abducible start a) = 0x03
 tag_of (rule start head body) = 0x04
 tag_of (integrity start body) = 0x05
+
+-- What a line types, and the tag of its field.
+unfoldable pub kind_of_line : Line → LineKind
+kind_of_line (abducible start a) = types.Abducible
+kind_of_line (rule start head body) = types.Rule
+kind_of_line (integrity start body) = types.Integrity
+
+abbrev pub tag_byte : LineKind → ℕ
+tag_byte types.Abducible = 0x03
+tag_byte types.Rule = 0x04
+tag_byte types.Integrity = 0x05
 
 unfoldable pub start_of : Line → ℕ
 start_of (abducible start a) = start
@@ -35,12 +48,12 @@ atom_of (abducible start a) = a
 atom_of (rule start head body) = head / 2
 atom_of (integrity start body) = 0
 
-abbrev pub briefly : ℕ → ℕ → ℕ → ℕ → ℕ → Brief
-briefly tag start atom above count = record { tag = tag; start = start; atom = atom; above = above; count = count }
+abbrev pub briefly : LineKind → ℕ → ℕ → ℕ → ℕ → Brief
+briefly kind start atom above count = record { kind = kind; start = start; atom = atom; above = above; count = count }
 
 -- A line, briefly.
 unfoldable pub brief : Line → Brief
-brief line = briefly (tag_of line) (start_of line) (atom_of line) (count_of (named_in (line ∷ []))) (few (length (numbers_of line)))
+brief line = briefly (kind_of_line line) (start_of line) (atom_of line) (count_of (named_in (line ∷ []))) (few (length (numbers_of line)))
 
 abbrev pub stage_of : State → Stage
 stage_of fresh = stage.Fresh
@@ -61,14 +74,14 @@ move_of bars = Bars
 
 -- A line that begins with `false`, and one that begins with an atom.
 abbrev pub denial_briefly : ℕ → Brief
-denial_briefly start = briefly 0x05 start 0 1 0
+denial_briefly start = briefly types.Integrity start 0 1 0
 
-abbrev pub opened_briefly : ℕ → ℕ → ℕ → Brief
-opened_briefly tag start a = briefly tag start a (a + 1) 1
+abbrev pub opened_briefly : LineKind → ℕ → ℕ → Brief
+opened_briefly kind start a = briefly kind start a (a + 1) 1
 
 -- One more literal, of an atom.
 unfoldable pub also_briefly : Brief → ℕ → Brief
-also_briefly b a = cond (eqb b.tag 0x03) b (briefly b.tag b.start b.atom (larger b.above (a + 1)) (few (b.count + 1)))
+also_briefly b a = cond (eqb (tag_byte b.kind) 0x03) b (briefly b.kind b.start b.atom (larger b.above (a + 1)) (few (b.count + 1)))
 
 -- What a token does.
 unfoldable pub step_briefly : Stage → ℕ → ℕ → ℕ → Move
@@ -76,10 +89,10 @@ step_briefly stage.Fresh place kind a =
     cond (is_abducible kind) (Goes (stage.Declaring place))
     (cond (is_false kind) (Goes (stage.Headed (denial_briefly place)))
     (cond (is_minus kind) (Goes (stage.Negated place))
-    (cond (is_atom kind) (Goes (stage.Headed (opened_briefly 0x04 place a))) Bars)))
-step_briefly (stage.Declaring start) place kind a = cond (is_atom kind) (Goes (stage.Declared (opened_briefly 0x03 start a))) Bars
+    (cond (is_atom kind) (Goes (stage.Headed (opened_briefly types.Rule place a))) Bars)))
+step_briefly (stage.Declaring start) place kind a = cond (is_atom kind) (Goes (stage.Declared (opened_briefly types.Abducible start a))) Bars
 step_briefly (stage.Declared b) place kind a = cond (is_stop kind) (Ends b) Bars
-step_briefly (stage.Negated start) place kind a = cond (is_atom kind) (Goes (stage.Headed (opened_briefly 0x04 start a))) Bars
+step_briefly (stage.Negated start) place kind a = cond (is_atom kind) (Goes (stage.Headed (opened_briefly types.Rule start a))) Bars
 step_briefly (stage.Headed b) place kind a = cond (is_stop kind) (Ends b) (cond (is_arrow kind) (Goes (stage.Due b)) Bars)
 step_briefly (stage.Due b) place kind a =
     cond (is_not kind) (Goes (stage.Denied b))

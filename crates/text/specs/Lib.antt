@@ -10,6 +10,8 @@ pub mod Typed
 pub mod Importing
 -- What has to unfold for an import to be computed.
 pub mod Computing
+-- The code's answers in the terms of these.
+pub mod Told
 -- A program as a text.
 pub mod Printing
 -- The automaton of a line as the code runs it, without its literals.

@@ -1,12 +1,13 @@
 -- What reading one line answers, by the definition of the lines of a text.
-use Rattle.std.specs.Prelude.{◌≡◌, cond, List, [], ◌∷◌, ℕ, ◌≤◌, ◌<◌, length, drop}
+use Rattle.std.specs.Prelude.{◌≡◌, cond, List, [], ◌∷◌, ℕ, ◌≤◌, ◌<◌, Option, Some, None, Result, Ok, Err, length, drop}
 use Rattle.text.specs.declared.line.Brief.{Brief}
 use Rattle.text.specs.declared.line.Stage.{Stage}
-use Rattle.text.specs.declared.line.LineRead.{LineRead}
-use Rattle.text.specs.declared.line.LineRead.TheVariants as read
+use Rattle.text.specs.declared.TextRefusal.{TextRefusal}
+use Rattle.text.specs.declared.TextFault.TheVariants as fault
 use Rattle.text.specs.Tokens.{tokens_from}
-use Rattle.text.specs.Lines.{Reading, accepted, refused, text_refusal, and_then, Line, State, fresh, lines_from}
+use Rattle.text.specs.Lines.{Reading, accepted, refused, and_then, Line, State, fresh, lines_from}
 use Rattle.text.specs.Briefly.{brief, is_fresh}
+use Rattle.text.specs.Told.{refusal_of}
 
 -- The lines of a text from a place on, where a line was read so far.
 abbrev pub lines_at : List ℕ → State → ℕ → Reading (List Line)
@@ -20,11 +21,11 @@ pub record LineEnds (text : List ℕ) (s : State) (at : ℕ) (b : Brief) (after 
   pub later : at < after
   pub within : after ≤ length text
 
-abbrev pub LineTells : List ℕ → State → ℕ → LineRead → Type 0
-LineTells text s at (read.Line b after) = LineEnds text s at b after
-LineTells text s at (read.Refused f) = lines_at text s at ≡ refused f
-LineTells text s at read.End = lines_at text s at ≡ accepted []
+abbrev pub LineTells : List ℕ → State → ℕ → Result (Option (Brief × ℕ)) TextRefusal → Type 0
+LineTells text s at (Ok (Some found)) = LineEnds text s at found.0 found.1
+LineTells text s at (Ok None) = lines_at text s at ≡ accepted []
+LineTells text s at (Err r) = lines_at text s at ≡ refused (refusal_of r)
 
 -- The end of the text: between lines, or inside one.
-unfoldable pub ended_briefly : Stage → ℕ → LineRead
-ended_briefly stage place = cond (is_fresh stage) read.End (read.Refused (text_refusal 18 place))
+unfoldable pub ended_briefly : Stage → ℕ → Result (Option (Brief × ℕ)) TextRefusal
+ended_briefly stage place = cond (is_fresh stage) (Ok None) (Err (record { fault = fault.Line; place = place }))

@@ -1,9 +1,11 @@
 -- The numbers of a line in its field, as the code gathers them token by token.
-use Rattle.std.specs.Prelude.{◌≡◌, cond, List, [], ◌∷◌, ℕ, zero, suc, ◌+◌, ◌*◌}
+use Rattle.std.specs.Prelude.{◌≡◌, Option, Some, None, cond, List, [], ◌∷◌, ℕ, zero, suc, ◌+◌, ◌*◌}
+use Rattle.text.specs.declared.token.Token.{Token}
 use Rattle.text.specs.declared.line.Stage.{Stage}
 use Rattle.text.specs.declared.line.Stage.TheVariants as stage
 use Rattle.text.specs.Lines.{accepted, Line, fresh, is_atom}
 use Rattle.text.specs.Briefly.{numbers_of}
+use Rattle.text.specs.Told.{kind_of, number_of}
 use Rattle.text.specs.LineAnswers.{lines_at}
 
 -- As many numbers as there is room for: the first of these, and zeros after the last.
@@ -40,6 +42,11 @@ number_said (stage.Denied b) a = 4 * a + 1
 number_said (stage.NegatedIn b) a = 4 * a + 2
 number_said (stage.DeniedNegated b) a = 4 * a + 3
 number_said (stage.Said b) a = 0
+
+-- What a token says: its place among the line's numbers, and its number; or that it says none.
+abbrev pub SaidTells : Stage → Token → Option (ℕ × ℕ) → Type 0
+SaidTells stage token (Some said) = (said.0 ≡ place_said stage (kind_of token)) × (said.1 ≡ number_said stage (number_of token))
+SaidTells stage token None = place_said stage (kind_of token) ≡ 17
 
 -- Where a line stands from a place on, these are its numbers.
 abbrev pub NumbersTell : List ℕ → ℕ → List ℕ → Type 0

@@ -1,10 +1,14 @@
 -- The lines of a text: which tokens a line's form allows, and what it says.
 use Rattle.std.specs.Prelude.{Bool, cond, List, [], ◌∷◌, ◌++◌, ℕ, zero, suc, eqb}
 use Rattle.literals.specs.Numbering.{positive, negative, literal, default_negation}
-use Rattle.text.specs.declared.TextRefusal.{TextRefusal}
 use Rattle.text.specs.Tokens.{Tokens, token, stray, end, tokens}
 
--- What a text comes to: what it is accepted as, or the refusal, whose paper is the text.
+-- A refusal of a text: its number and its place in the text. Its paper is the text.
+pub record TextRefusal : Type 0 where
+  pub number : ℕ
+  pub place : ℕ
+
+-- What a text comes to: what it is accepted as, or the refusal.
 pub data Reading (A : Type 0) : Type 0 where
   accepted : A → Reading A
   refused : TextRefusal → Reading A

@@ -1,8 +1,13 @@
 -- The tokens of a text. A token is known by its first character: no two begin with the same.
 use Rattle.std.specs.Prelude.{Bool, true, false, not, ◌&&◌, ◌||◌, cond, List, [], ◌∷◌, ℕ, zero, suc, ◌+◌, ◌*◌, ◌-◌, eqb, leb, length, get_or, drop}
 use Rattle.decimals.specs.Text.{ascii}
-use Rattle.text.specs.declared.Scanned.{Scanned}
-use Rattle.text.specs.declared.Scanned.TheVariants.{Token, Stray, End}
+
+-- What stands next in a text: a token by its first character, which tells its kind, its number, its place and the place after it; or the
+-- place of a character that starts no permitted token; or the end.
+pub data Scanned : Type 0 where
+  Token : ℕ → ℕ → ℕ → ℕ → Scanned
+  Stray : ℕ → Scanned
+  End : ℕ → Scanned
 
 -- "Spaces (20) and line ends (0D, 0A)".
 unfoldable pub is_blank : ℕ → Bool

@@ -1,24 +1,86 @@
 // One line of a text: the automaton of its form, and what it says.
-ghost use Rattle.std.specs.Prelude.{◌≡◌, cond, ◌+◌, ◌≤◌, ◌<◌, length};
-ghost use Rattle.text.specs.Lines.{fresh, is_atom};
-ghost use Rattle.text.specs.Typed.{larger};
-ghost use Rattle.text.specs.Briefly.{few, denial_briefly, opened_briefly, also_briefly, step_briefly, is_fresh};
+ghost use Rattle.std.specs.Prelude.{◌≡◌, ◌≤◌, length};
+ghost use Rattle.text.specs.Lines.{fresh};
+ghost use Rattle.text.specs.Briefly.{tag_byte, denial_briefly, opened_briefly, also_briefly, step_briefly};
+ghost use Rattle.text.specs.Told.{kind_of, number_of};
 ghost use Rattle.text.specs.LineAnswers.{ended_briefly, LineTells};
-ghost use Rattle.text.specs.declared.line.Stage.TheVariants as stage;
-ghost use Rattle.text.specs.declared.line.Move.TheVariants.{Goes, Bars};
 
-use crate::token::next_token;
-use crate::{Scanned, TextRefusal};
+use crate::token::{Scanned, Token, next_token};
+use crate::{TextFault, TextRefusal};
 
-// What a line says, briefly: the tag of its field, the place of its first token, the atom that it declares or that of its head, one
-// more than the greatest atom that it names, and how many numbers it has in its field, 18 standing for 18 or more.
+// What a line types.
+#[derive(Clone, Copy, PartialEq, Eq, Debug)]
+pub enum LineKind {
+    Abducible,
+    Rule,
+    Integrity,
+}
+
+impl LineKind {
+    // The tag of its field.
+    pub fn tag(self) -> u8
+        ensures { result ≡ tag_byte self }
+    {
+        match self {
+            LineKind::Abducible => 3,
+            LineKind::Rule => 4,
+            LineKind::Integrity => 5,
+        }
+    }
+}
+
+// What a line says, briefly: what it types, the place of its first token, the atom that it declares or that of its head, one more than
+// the greatest atom that it names, and how many numbers it has in its field, 18 standing for 18 or more.
 #[derive(Clone, Copy)]
 pub struct Brief {
-    pub tag: u8,
+    pub kind: LineKind,
     pub start: usize,
-    pub atom: usize,
+    pub atom: u8,
     pub above: usize,
     pub count: usize,
+}
+
+impl Brief {
+    // A line that begins with `false`.
+    fn denial(start: usize) -> Brief
+        ensures { result ≡ denial_briefly start }
+    {
+        Brief {
+            kind: LineKind::Integrity,
+            start,
+            atom: 0,
+            above: 1,
+            count: 0,
+        }
+    }
+
+    // A line that begins with an atom, after what stands before it.
+    fn opened(kind: LineKind, start: usize, atom: u8) -> Brief
+        ensures { result ≡ opened_briefly kind start atom }
+    {
+        Brief {
+            kind,
+            start,
+            atom,
+            above: usize::from(atom) + 1,
+            count: 1,
+        }
+    }
+
+    // With one more literal. A declaration takes none.
+    #[tactic(auto, unfolding(crate::specs::Briefly::also_briefly, crate::specs::Briefly::few))]
+    fn also(self, atom: u8) -> Brief
+        ensures { result ≡ also_briefly self atom }
+    {
+        match self.kind {
+            LineKind::Abducible => self,
+            LineKind::Rule | LineKind::Integrity => Brief {
+                above: self.above.max(usize::from(atom) + 1),
+                count: self.count.min(17) + 1,
+                ..self
+            },
+        }
+    }
 }
 
 // How far a line was read.
@@ -36,6 +98,7 @@ pub enum Stage {
     Said(Brief),
 }
 
+// What a token does to it: the line goes on or ends, or the token is not allowed there.
 #[derive(Clone, Copy)]
 pub enum Move {
     Goes(Stage),
@@ -43,269 +106,83 @@ pub enum Move {
     Bars,
 }
 
-// A line that begins with `false`, and one that begins with an atom.
-fn denial(start: usize) -> Brief
-    ensures { result ≡ denial_briefly start }
-{
-    Brief {
-        tag: 5,
-        start,
-        atom: 0,
-        above: 1,
-        count: 0,
+impl Stage {
+    #[tactic(auto, unfolding(crate::specs::Briefly::step_briefly))]
+    pub(crate) fn step(self, place: usize, token: Token) -> Move
+        ensures { result ≡ step_briefly self place (kind_of token) (number_of token) }
+    {
+        match (self, token) {
+            (Stage::Fresh, Token::Abducible) => Move::Goes(Stage::Declaring(place)),
+            (Stage::Fresh, Token::False) => Move::Goes(Stage::Headed(Brief::denial(place))),
+            (Stage::Fresh, Token::Minus) => Move::Goes(Stage::Negated(place)),
+            (Stage::Fresh, Token::Atom(a)) => Move::Goes(Stage::Headed(Brief::opened(
+                LineKind::Rule,
+                place,
+                a,
+            ))),
+            (Stage::Declaring(start), Token::Atom(a)) => Move::Goes(Stage::Declared(Brief::opened(
+                LineKind::Abducible,
+                start,
+                a,
+            ))),
+            (Stage::Negated(start), Token::Atom(a)) => Move::Goes(Stage::Headed(Brief::opened(
+                LineKind::Rule,
+                start,
+                a,
+            ))),
+            (Stage::Headed(line), Token::Arrow) => Move::Goes(Stage::Due(line)),
+            (Stage::Due(line), Token::Not) => Move::Goes(Stage::Denied(line)),
+            (Stage::Due(line), Token::Minus) => Move::Goes(Stage::NegatedIn(line)),
+            (Stage::Denied(line), Token::Minus) => Move::Goes(Stage::DeniedNegated(line)),
+            (Stage::Due(line), Token::Atom(a)) => Move::Goes(Stage::Said(line.also(a))),
+            (Stage::Denied(line), Token::Atom(a)) => Move::Goes(Stage::Said(line.also(a))),
+            (Stage::NegatedIn(line), Token::Atom(a)) => Move::Goes(Stage::Said(line.also(a))),
+            (Stage::DeniedNegated(line), Token::Atom(a)) => Move::Goes(Stage::Said(line.also(a))),
+            (Stage::Said(line), Token::Comma) => Move::Goes(Stage::Due(line)),
+            (Stage::Declared(line) | Stage::Headed(line) | Stage::Said(line), Token::Stop) =>
+                Move::Ends(line),
+            _ => Move::Bars,
+        }
+    }
+
+    // What the end of the text, at this place, makes of a line that was read so far.
+    #[tactic(auto, unfolding(crate::specs::LineAnswers::ended_briefly))]
+    fn ended(self, place: usize) -> Result<Option<(Brief, usize)>, TextRefusal>
+        ensures { result ≡ ended_briefly self place }
+    {
+        if matches!(self, Stage::Fresh) {
+            return Ok(None);
+        }
+        Err(TextRefusal {
+            fault: TextFault::Line,
+            place,
+        })
     }
 }
 
-fn opened(tag: u8, start: usize, atom: usize) -> Brief
-    requires { atom ≤ 255 }
-    ensures { result ≡ opened_briefly tag start atom }
-{
-    Brief {
-        tag,
-        start,
-        atom,
-        above: atom + 1,
-        count: 1,
-    }
-}
-
-pub fn greater(m: usize, n: usize) -> usize
-    ensures { result ≡ larger m n }
-{
-    if m < n { n } else { m }
-}
-
-// One more, 18 standing for 18 or more.
-fn one_more(count: usize) -> usize
-    ensures { result ≡ few (count + 1) }
-{
-    if count < 17 { count + 1 } else { 18 }
-}
-
-// The line with one more literal. A declaration takes none.
-fn also(line: Brief, atom: usize) -> Brief
-    requires { atom ≤ 255 }
-    ensures { result ≡ also_briefly line atom }
-{
-    if line.tag == 3 {
-        return line;
-    }
-    Brief {
-        tag: line.tag,
-        start: line.start,
-        atom: line.atom,
-        above: greater(line.above, atom + 1),
-        count: one_more(line.count),
-    }
-}
-
-// What a token does before a line.
-fn begun(place: usize, kind: u8, atom: usize) -> Move
-    requires { atom ≤ 255 }
-    ensures { result ≡ step_briefly stage.Fresh place kind atom }
-{
-    if kind == 0x61 {
-        return Move::Goes(Stage::Declaring(place));
-    }
-    if kind == 0x66 {
-        return Move::Goes(Stage::Headed(denial(place)));
-    }
-    if kind == 0x2D {
-        return Move::Goes(Stage::Negated(place));
-    }
-    if kind == 0x70 {
-        return Move::Goes(Stage::Headed(opened(4, place, atom)));
-    }
-    Move::Bars
-}
-
-// After `abducible`.
-fn declared(start: usize, kind: u8, atom: usize) -> Move
-    requires { atom ≤ 255 }
-    ensures { result ≡ step_briefly (stage.Declaring start) 0 kind atom }
-{
-    if kind == 0x70 {
-        return Move::Goes(Stage::Declared(opened(3, start, atom)));
-    }
-    Move::Bars
-}
-
-// After a declaration: the full stop.
-fn stopped(line: Brief, kind: u8) -> Move
-    ensures { result ≡ step_briefly (stage.Declared line) 0 kind 0 }
-{
-    if kind == 0x2E {
-        return Move::Ends(line);
-    }
-    Move::Bars
-}
-
-// After the `-` of a head.
-fn headed(start: usize, kind: u8, atom: usize) -> Move
-    requires { atom ≤ 255 }
-    ensures { result ≡ step_briefly (stage.Negated start) 0 kind atom }
-{
-    if kind == 0x70 {
-        return Move::Goes(Stage::Headed(opened(4, start, atom)));
-    }
-    Move::Bars
-}
-
-// Where the atom of a literal is due.
-fn said(line: Brief, kind: u8, atom: usize) -> Move
-    requires { atom ≤ 255 }
-    ensures { result ≡ cond (is_atom kind) (Goes (stage.Said (also_briefly line atom))) Bars }
-{
-    if kind == 0x70 {
-        return Move::Goes(Stage::Said(also(line, atom)));
-    }
-    Move::Bars
-}
-
-// Where a literal is due.
-fn due(line: Brief, kind: u8, atom: usize) -> Move
-    requires { atom ≤ 255 }
-    ensures { result ≡ step_briefly (stage.Due line) 0 kind atom }
-{
-    if kind == 0x6E {
-        return Move::Goes(Stage::Denied(line));
-    }
-    if kind == 0x2D {
-        return Move::Goes(Stage::NegatedIn(line));
-    }
-    said(line, kind, atom)
-}
-
-// After a literal's `not`.
-fn denied(line: Brief, kind: u8, atom: usize) -> Move
-    requires { atom ≤ 255 }
-    ensures { result ≡ step_briefly (stage.Denied line) 0 kind atom }
-{
-    if kind == 0x2D {
-        return Move::Goes(Stage::DeniedNegated(line));
-    }
-    said(line, kind, atom)
-}
-
-// After a head: the full stop, or `:-`.
-fn closed(line: Brief, kind: u8) -> Move
-    ensures { result ≡ step_briefly (stage.Headed line) 0 kind 0 }
-{
-    if kind == 0x2E {
-        return Move::Ends(line);
-    }
-    if kind == 0x3A {
-        return Move::Goes(Stage::Due(line));
-    }
-    Move::Bars
-}
-
-// After a literal: a comma, or the full stop.
-fn parted(line: Brief, kind: u8) -> Move
-    ensures { result ≡ step_briefly (stage.Said line) 0 kind 0 }
-{
-    if kind == 0x2C {
-        return Move::Goes(Stage::Due(line));
-    }
-    if kind == 0x2E {
-        return Move::Ends(line);
-    }
-    Move::Bars
-}
-
-// What a token does.
-pub(crate) fn step(stage: Stage, place: usize, kind: u8, atom: usize) -> Move
-    requires { atom ≤ 255 }
-    ensures { result ≡ step_briefly stage place kind atom }
-{
-    match stage {
-        Stage::Fresh => begun(place, kind, atom),
-        Stage::Declaring(start) => declared(start, kind, atom),
-        Stage::Declared(line) => stopped(line, kind),
-        Stage::Negated(start) => headed(start, kind, atom),
-        Stage::Headed(line) => closed(line, kind),
-        Stage::Due(line) => due(line, kind, atom),
-        Stage::Denied(line) => denied(line, kind, atom),
-        Stage::NegatedIn(line) => said(line, kind, atom),
-        Stage::DeniedNegated(line) => said(line, kind, atom),
-        Stage::Said(line) => parted(line, kind),
-    }
-}
-
-// A line that was read: what it says, and the place after it; or the refusal; or that the text ends before any.
-#[derive(Clone, Copy)]
-pub enum LineRead {
-    Line { line: Brief, end: usize },
-    Refused(TextRefusal),
-    End,
-}
-
-fn is_fresh(stage: Stage) -> bool
-    ensures { result ≡ is_fresh stage }
-{
-    match stage {
-        Stage::Fresh => true,
-        Stage::Declaring(_) => false,
-        Stage::Declared(_) => false,
-        Stage::Negated(_) => false,
-        Stage::Headed(_) => false,
-        Stage::Due(_) => false,
-        Stage::Denied(_) => false,
-        Stage::NegatedIn(_) => false,
-        Stage::DeniedNegated(_) => false,
-        Stage::Said(_) => false,
-    }
-}
-
-// What the end of the text makes of a line that was read to this stage.
-fn ended(stage: Stage, place: usize) -> LineRead
-    ensures { result ≡ ended_briefly stage place }
-{
-    if is_fresh(stage) {
-        return LineRead::End;
-    }
-    LineRead::Refused(TextRefusal { number: 18, place })
-}
-
-// The next line from a place on.
-pub fn read_line(text: &[u8], from: usize) -> LineRead
+// The next line from a place on and the place after it, if the text does not end first.
+pub fn read_line(text: &[u8], from: usize) -> Result<Option<(Brief, usize)>, TextRefusal>
     requires { from ≤ length text.now }
     ensures { LineTells text.now fresh from result }
 {
     let mut stage = Stage::Fresh;
     let mut at = from;
-    loop {
-        let scanned = next_token(text, at);
-        match scanned {
-            Scanned::Token {
-                kind,
-                value,
-                start,
-                end,
-            } => {
-                let moved = step(stage, start, kind, value);
-                match moved {
-                    Move::Goes(later) => {
-                        stage = later;
-                        at = end;
-                    }
-                    Move::Ends(line) => {
-                        return LineRead::Line { line, end };
-                    }
-                    Move::Bars => {
-                        return LineRead::Refused(TextRefusal {
-                            number: 18,
-                            place: start,
-                        });
-                    }
-                }
+    while let Some(Scanned { token, start, end }) = next_token(text, at)? {
+        match stage.step(start, token) {
+            Move::Goes(later) => {
+                stage = later;
+                at = end;
             }
-            Scanned::Stray(place) => {
-                return LineRead::Refused(TextRefusal { number: 17, place });
+            Move::Ends(line) => {
+                return Ok(Some((line, end)));
             }
-            Scanned::End(place) => {
-                return ended(stage, place);
+            Move::Bars => {
+                return Err(TextRefusal {
+                    fault: TextFault::Line,
+                    place: start,
+                });
             }
         }
     }
+    stage.ended(text.len())
 }

@@ -1,49 +1,29 @@
 // The numbers of a line in its field, which a second reading of its tokens finds.
-ghost use Rattle.std.specs.Prelude.{◌≡◌, ◌≤◌, ◌<◌, length};
-ghost use Rattle.text.specs.LineNumbers.{place_said, number_said, NumbersTell};
+ghost use Rattle.std.specs.Prelude.{◌≤◌, length};
+ghost use Rattle.text.specs.LineNumbers.{SaidTells, NumbersTell};
 
-use crate::Scanned;
-use crate::line::{Move, Stage, step};
-use crate::token::next_token;
+use crate::line::{Move, Stage};
+use crate::token::{Scanned, Token, next_token};
 use arrays::put;
 
-// Where a token's number stands among the line's; 17 where it has none.
-fn place_said(stage: Stage, kind: u8) -> usize
-    ensures { result ≡ place_said stage kind }
+// What an atom says, a declared atom, a head or a literal: its place among the line's numbers, and its number. Another token says none.
+#[tactic(auto, unfolding(crate::specs::LineNumbers::place_said, crate::specs::LineNumbers::number_said))]
+fn number_said(stage: Stage, token: Token) -> Option<(usize, u16)>
+    ensures { SaidTells stage token result }
 {
-    if kind != 0x70 {
-        return 17;
-    }
+    let Token::Atom(atom) = token else {
+        return None;
+    };
+    let atom = u16::from(atom);
     match stage {
-        Stage::Fresh => 0,
-        Stage::Declaring(_) => 0,
-        Stage::Declared(_) => 17,
-        Stage::Negated(_) => 0,
-        Stage::Headed(_) => 17,
-        Stage::Due(line) => line.count,
-        Stage::Denied(line) => line.count,
-        Stage::NegatedIn(line) => line.count,
-        Stage::DeniedNegated(line) => line.count,
-        Stage::Said(_) => 17,
-    }
-}
-
-// The number that an atom says: a declared atom, a head, or a literal.
-fn number_said(stage: Stage, atom: usize) -> usize
-    requires { atom ≤ 255 }
-    ensures { (result ≡ number_said stage atom) × (result < 65536) }
-{
-    match stage {
-        Stage::Fresh => 2 * atom,
-        Stage::Declaring(_) => atom,
-        Stage::Declared(_) => 0,
-        Stage::Negated(_) => 2 * atom + 1,
-        Stage::Headed(_) => 0,
-        Stage::Due(_) => 4 * atom,
-        Stage::Denied(_) => 4 * atom + 1,
-        Stage::NegatedIn(_) => 4 * atom + 2,
-        Stage::DeniedNegated(_) => 4 * atom + 3,
-        Stage::Said(_) => 0,
+        Stage::Fresh => Some((0, 2 * atom)),
+        Stage::Declaring(_) => Some((0, atom)),
+        Stage::Negated(_) => Some((0, 2 * atom + 1)),
+        Stage::Due(line) => Some((line.count, 4 * atom)),
+        Stage::Denied(line) => Some((line.count, 4 * atom + 1)),
+        Stage::NegatedIn(line) => Some((line.count, 4 * atom + 2)),
+        Stage::DeniedNegated(line) => Some((line.count, 4 * atom + 3)),
+        Stage::Declared(_) | Stage::Headed(_) | Stage::Said(_) => None,
     }
 }
 
@@ -55,25 +35,15 @@ pub fn numbers_in(text: &[u8], from: usize) -> [u16; 17]
     let mut stage = Stage::Fresh;
     let mut at = from;
     let mut numbers = [0u16; 17];
-    loop {
-        let scanned = next_token(text, at);
-        let Scanned::Token {
-            kind,
-            value,
-            start,
-            end,
-        } = scanned
-        else {
+    while let Ok(Some(Scanned { token, start, end })) = next_token(text, at) {
+        let Move::Goes(later) = stage.step(start, token) else {
             return numbers;
         };
-        let moved = step(stage, start, kind, value);
-        let Move::Goes(later) = moved else {
-            return numbers;
-        };
-        let place = place_said(stage, kind);
-        let number = number_said(stage, value);
-        put(&mut numbers, place, number as u16);
+        if let Some((place, number)) = number_said(stage, token) {
+            put(&mut numbers, place, number);
+        }
         stage = later;
         at = end;
     }
+    numbers
 }

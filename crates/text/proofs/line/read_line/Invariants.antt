@@ -4,8 +4,8 @@ use lib.ListN.{length}
 use Rattle.text.proofs.LineLaws.{Gone}
 use Rattle.text.proofs.line.read_line.Given as goal
 
-abbrev pub invariant-loop-kind : goal.invariant-loop-kind
-invariant-loop-kind l = Gone l.text l.from l.stage l.at
+abbrev pub invariant-loop-token : goal.invariant-loop-token
+invariant-loop-token l = Gone l.text l.from l.stage l.at
 
-abbrev pub decreases-loop-kind : goal.decreases-loop-kind
-decreases-loop-kind l = length l.text - l.at
+abbrev pub decreases-loop-token : goal.decreases-loop-token
+decreases-loop-token l = length l.text - l.at

@@ -1,47 +1,45 @@
 -- `text::numbers::numbers_in` meets its contract. The loop's invariant: the numbers of what was read of the line are gathered.
-use mathlib.Core.Path.{refl, sym, ap, ◌∙◌}
+use mathlib.Core.Path.{refl}
 use native.Mathlib.Omega.{arith}
-use lib.ListN.{length}
 use Rattle.text.specs.LineNumbers.{padded}
-use Rattle.text.proofs.LineLaws.{token_value}
-use Rattle.text.proofs.Gathering.{padded_length, numbers_in}
-use Rattle.text.proofs.GatheredLines.{gathered_start, gathered_none, gathered_less, gathered_on, gathered_done}
+use Rattle.text.proofs.LineLaws.{next_is, next_over}
+use Rattle.text.proofs.GatheredLines.{gathered_start, gathered_stray, gathered_over, gathered_less, gathered_same, gathered_on, gathered_done}
 use Rattle.text.proofs.numbers.numbers_in.Goals as goal
 
-pub loop-kind-init : goal.loop-kind-init
-loop-kind-init c = gathered_start c.requires (unfold padded in refl)
+pub loop-token-init : goal.loop-token-init
+loop-token-init c = gathered_start c.requires (unfold padded in refl)
 
-pub next_token-scanned-requires : goal.next_token-scanned-requires
-next_token-scanned-requires c = c.loop-kind.invariant.within
+pub returns-in_default-step : goal.returns-in_default-step
+returns-in_default-step c =
+    let token = next_is _ _ c.in-Ok-Some.ensures c.in-Ok-Some.field-0-is in
+    gathered_done c.loop-token.invariant token c.step.ensures c.in_default-step.not-Goes
+
+pub loop-token-preserved-in-Some : goal.loop-token-preserved-in-Some
+loop-token-preserved-in-Some c =
+    let token = next_is _ _ c.in-Ok-Some.ensures c.in-Ok-Some.field-0-is in
+    let said = c.in-Some.ensures in
+    gathered_on c.loop-token.invariant token c.step.ensures c.in-Goes.is (rw (← said.0, ← said.1) c.put.ensures)
+
+pub loop-token-smaller-in-Some : goal.loop-token-smaller-in-Some
+loop-token-smaller-in-Some c =
+    let token = next_is _ _ c.in-Ok-Some.ensures c.in-Ok-Some.field-0-is in
+    let less = gathered_less c.loop-token.invariant token c.step.ensures in
+    omega (arith, less, (loop-token-preserved-in-Some c).within)
+
+pub loop-token-preserved : goal.loop-token-preserved
+loop-token-preserved c =
+    let token = next_is _ _ c.in-Ok-Some.ensures c.in-Ok-Some.field-0-is in
+    let g = c.loop-token.invariant in
+    gathered_on g token c.step.ensures c.in-Goes.is (gathered_same g token c.step.ensures c.in_default-number_said.ensures)
+
+pub loop-token-smaller : goal.loop-token-smaller
+loop-token-smaller c =
+    let token = next_is _ _ c.in-Ok-Some.ensures c.in-Ok-Some.field-0-is in
+    let less = gathered_less c.loop-token.invariant token c.step.ensures in
+    omega (arith, less, (loop-token-preserved c).within)
 
 pub returns-in_default : goal.returns-in_default
-returns-in_default c = gathered_none c.loop-kind.invariant c.next_token-scanned.ensures c.in_default.not-Token
+returns-in_default c = gathered_over c.loop-token.invariant (next_over _ _ c.in_default.ensures (cc))
 
-pub step-moved-requires : goal.step-moved-requires
-step-moved-requires c =
-    let at = c.loop-kind in
-    token_value c.args.text.now at.at at.invariant.within c.next_token-scanned.ensures c.in-Token.is
-
-pub returns-in_default-moved : goal.returns-in_default-moved
-returns-in_default-moved c =
-    gathered_done c.loop-kind.invariant c.next_token-scanned.ensures c.in-Token.is c.step-moved.ensures c.in_default-moved.not-Goes
-
-pub number_said-number-requires : goal.number_said-number-requires
-number_said-number-requires c =
-    let at = c.loop-kind in
-    token_value c.args.text.now at.at at.invariant.within c.next_token-scanned.ensures c.in-Token.is
-
-pub slice_bounds-put-end : goal.slice_bounds-put-end
-slice_bounds-put-end c =
-    let g = c.loop-kind.invariant in
-    sym (ap length g.held ∙ padded_length 17 (numbers_in g.state))
-
-pub loop-kind-preserved : goal.loop-kind-preserved
-loop-kind-preserved c =
-    gathered_on c.loop-kind.invariant c.next_token-scanned.ensures c.in-Token.is c.step-moved.ensures
-    c.in-Goes.is c.place_said-place.ensures c.number_said-number.ensures.0 c.put.ensures
-
-pub loop-kind-smaller : goal.loop-kind-smaller
-loop-kind-smaller c =
-    let less = gathered_less c.loop-kind.invariant c.next_token-scanned.ensures c.in-Token.is c.step-moved.ensures in
-    omega (arith, less, (loop-kind-preserved c).within)
+pub returns-in_default-2 : goal.returns-in_default-2
+returns-in_default-2 c = gathered_stray c.loop-token.invariant (rw c.in_default.is at c.next_token.ensures).1

@@ -4,8 +4,8 @@ use lib.ListN.{length}
 use Rattle.text.proofs.GatheredLines.{Gathered}
 use Rattle.text.proofs.numbers.numbers_in.Given as goal
 
-abbrev pub invariant-loop-kind : goal.invariant-loop-kind
-invariant-loop-kind l = Gathered l.text l.from l.stage l.at l.numbers
+abbrev pub invariant-loop-token : goal.invariant-loop-token
+invariant-loop-token l = Gathered l.text l.from l.stage l.at l.numbers
 
-abbrev pub decreases-loop-kind : goal.decreases-loop-kind
-decreases-loop-kind l = length l.text - l.at
+abbrev pub decreases-loop-token : goal.decreases-loop-token
+decreases-loop-token l = length l.text - l.at
