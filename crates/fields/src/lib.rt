@@ -1,104 +1,91 @@
 // One field: one-byte tag, two-byte length, content.
 #![tactic(auto)]
 
-ghost use Rattle.std.specs.Prelude.{◌≡◌, ◌≤◌, length, get_or, drop};
+ghost use Rattle.std.specs.Prelude.{◌≡◌, ◌≤◌, length, drop, slice_get};
 ghost use Rattle.papers.specs.Field.{fewest, most, length_allowed, field_fault, read_field};
-ghost use Rattle.papers.specs.Answers.{field_answer};
+ghost use Rattle.papers.specs.Told.{check_told, read_told, value_told};
 
 use numbered::number_at;
-use papers::{FieldRead, Paper, Refusal};
+use papers::{Fault, Paper, Refusal, tags};
 
-// The tag at a place, and 0, which is none, past the end.
-pub fn tag_at(bytes: &[u8], place: usize) -> u8
-    ensures { result ≡ get_or (drop place bytes.now) 0 0 }
+// The tag at a place; past the end there is none.
+pub fn tag_at(bytes: &[u8], place: usize) -> Option<u8>
+    ensures { result ≡ slice_get bytes.now place }
 {
-    if place < bytes.len() { bytes[place] } else { 0 }
+    bytes.get(place).copied()
 }
 
 // How many two-byte numbers a field of this tag has at least.
+#[tactic(auto, unfolding(papers::specs::Field::fewest))]
 fn fewest_numbers(tag: u8) -> usize
     ensures { (result ≡ fewest tag) × (result ≤ 1) }
 {
-    if tag == 0x02 {
-        return 1;
+    match tag {
+        tags::ATOMS | tags::RULE => 1,
+        _ => 0,
     }
-    if tag == 0x04 {
-        return 1;
-    }
-    0
 }
 
 // And at most.
+#[tactic(auto, unfolding(papers::specs::Field::most))]
 fn most_numbers(tag: u8) -> usize
     ensures { (result ≡ most tag) × (result ≤ 17) }
 {
-    if tag == 0x02 {
-        return 1;
+    match tag {
+        tags::ATOMS => 1,
+        tags::RULE => 17,
+        tags::END => 0,
+        _ => 16,
     }
-    if tag == 0x04 {
-        return 17;
-    }
-    if tag == 0x7F {
-        return 0;
-    }
-    16
 }
 
+#[tactic(auto, unfolding(papers::specs::Field::length_allowed))]
 pub fn length_allowed(tag: u8, len: usize) -> bool
     ensures { result ≡ length_allowed tag len }
 {
-    if tag == 0x01 {
+    if tag == tags::EDITION {
         return len == 1;
     }
-    if len % 2 != 0 {
-        return false;
-    }
-    if len < 2 * fewest_numbers(tag) {
-        return false;
-    }
-    len <= 2 * most_numbers(tag)
+    len % 2 == 0 && 2 * fewest_numbers(tag) <= len && len <= 2 * most_numbers(tag)
 }
 
-// The number of the first check that the field at a place fails, and 0 where it passes all.
-fn field_fault(bytes: &[u8], tag: u8, full: bool, place: usize) -> u8
+// Whether a whole field of this tag stands at a place. `full` says that no more of them may.
+fn check_field(bytes: &[u8], tag: u8, full: bool, place: usize) -> Result<(), Fault>
     requires { place ≤ length bytes.now }
-    ensures { result ≡ field_fault tag full (drop place bytes.now) }
+    ensures { check_told result ≡ field_fault tag full (drop place bytes.now) }
 {
     let left = bytes.len() - place;
     if left < 3 {
-        return 1;
+        return Err(Fault::Cut);
     }
     if bytes[place] != tag {
-        return 2;
+        return Err(Fault::StrayField);
     }
     if full {
-        return 9;
+        return Err(Fault::Overfull);
     }
     let size = number_at(bytes, place + 1);
     if !length_allowed(tag, size) {
-        return 3;
+        return Err(Fault::Misfit);
     }
     if left - 3 < size {
-        return 1;
+        return Err(Fault::Cut);
     }
-    0
+    Ok(())
 }
 
-pub fn read_field(bytes: &[u8], paper: Paper, tag: u8, full: bool, place: usize) -> FieldRead
+// The content of the field of this tag at a place of a paper.
+pub fn read_field(
+    bytes: &[u8],
+    paper: Paper,
+    tag: u8,
+    full: bool,
+    place: usize,
+) -> Result<&[u8], Refusal>
     requires { place ≤ length bytes.now }
-    ensures { result ≡ field_answer place (read_field paper tag full place bytes.now) }
+    ensures { value_told (λ content. content.now) result ≡ read_told (λ l. l) (read_field paper tag full place bytes.now) }
 {
-    let fault = field_fault(bytes, tag, full, place);
-    if fault != 0 {
-        return FieldRead::Refused(Refusal {
-            number: fault,
-            paper,
-            place,
-        });
-    }
+    check_field(bytes, tag, full, place).map_err(|fault| fault.at(paper, place))?;
     let start = place + 3;
-    FieldRead::Content {
-        start,
-        end: start + number_at(bytes, place + 1),
-    }
+    Ok(&bytes[start..start + number_at(bytes, place + 1)])
 }

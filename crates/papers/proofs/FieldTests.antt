@@ -96,6 +96,9 @@ module _ (paper : Paper) (tag : ℕ) (full : Bool) (place : ℕ) (bytes : List �
           let h = field_heading in
           omega (arith, length-drop place bytes)
 
-      pub field_content : read_field paper tag full place bytes ≡ accepted (take size (drop (place + 3) bytes))
+      -- The content, as the part of the paper that the code takes.
+      pub field_content : read_field paper tag full place bytes ≡ accepted (take (place + 3 + size - (place + 3)) (drop (place + 3) bytes))
       unfolding read_field content_of
-      field_content = rw (none, size_is, drop-drop)
+      field_content =
+          let long : place + 3 + size - (place + 3) ≡ size = omega arith in
+          rw (none, size_is, drop-drop, long)

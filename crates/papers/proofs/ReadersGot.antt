@@ -1,9 +1,9 @@
 -- What a caller knows of a read: what was accepted, or the refusal; and back, as a reader comes to tell it.
 -- Assumes nothing.
 use mathlib.Core.Path.{◌≡◌, refl, sym, ap, ◌∙◌}
-use mathlib.Core.Bool.{true≢false}
+use mathlib.Core.Bool.{true, true≢false}
 use Prim.Native.Nat.{ℕ}
-use Rattle.std.specs.Prelude.{Ok, Err}
+use Rattle.std.specs.Prelude.{Ok, Err, MatchResult, is_ok}
 use Rattle.std.specs.declared.result.Result.{Result}
 use Rattle.papers.specs.declared.Paper.{Paper}
 use Rattle.papers.specs.declared.Fault.{Fault}
@@ -74,6 +74,16 @@ module _ {got : Result (Unit {0}) Fault} {number : ℕ} (is : check_told got ≡
   pub check_failed : {f : Fault} → got ≡ Err f → number ≡ fault_number f
   unfolding check_told
   check_failed e = sym is ∙ ap check_told e
+
+-- What `map_err` was given: it hands on that a test passed, and `Q` says what it makes of a fault.
+pub mapped_passed : (got : Result (Unit {0}) Fault) → true ≡ is_ok got → got ≡ Ok tt
+mapped_passed (Ok passed) e = refl
+mapped_passed (Err f) e = absurd (true≢false e)
+
+pub mapped_failed : (got : Result (Unit {0}) Fault) (Q : Fault → Type 0) (r : declared.Refusal)
+    → MatchResult got (λ x. ◌≡◌ {A = Result (Unit {0}) declared.Refusal} (Err r) (Ok x)) Q → (f : Fault) × (got ≡ Err f) × Q f
+mapped_failed (Ok passed) Q r h = absurd (true≢false cc)
+mapped_failed (Err f) Q r h = (f, refl, h)
 
 -- A test that failed refuses, at the place that it is told with.
 pub failed_refuses : {A : Type 0} {number : ℕ} (f : Fault) (paper : Paper) (place : ℕ) (next : Outcome A) → number ≡ fault_number f

@@ -1,11 +1,7 @@
--- `fields::field_fault` meets its contract: at each `return` a law of `field_fault` takes the tests that led there.
+-- `fields::check_field` meets its contract: at each `return` a law of `field_fault` takes the tests that led there.
 use mathlib.Core.Path.{sym, ◌∙◌}
 use Rattle.papers.proofs.FieldTests.{fault_cut, fault_stray, fault_full, fault_misfit, fault_short, fault_none}
-use Rattle.fields.proofs.field_fault.Goals as goal
-
--- ---- the places
-
--- ---- once the length is tested
+use Rattle.fields.proofs.check_field.Goals as goal
 
 pub returns-then-left-lt3 : goal.returns-then-left-lt3
 returns-then-left-lt3 c = let a = c.args in fault_cut _ _ a.place a.bytes.now c.if-left-lt3.true
