@@ -1,98 +1,93 @@
-// The tests of a field's content. Each answers the number of the first that fails, and 0 where none
-// does.
+// The tests of a field's content, each of which answers the first fault that it finds.
 #![tactic(auto)]
 
 ghost use Rattle.std.specs.Prelude.{◌≡◌, ◌+◌, ◌<◌, length};
 ghost use Rattle.papers.specs.Field.{number_in, numbers};
 ghost use Rattle.papers.specs.Content.{abducibles_fault, literal_allowed, literals_fault, is_among, rule_fault, body_fault};
+ghost use Rattle.papers.specs.Told.{check_told};
 
 use conjugates::AtomOf;
 use literals::Atom;
 use literals::bodies::is_body_listed;
 use numbered::{atom_at, body_literal_at, literal_at, objective_at};
+use papers::{Fault, tags};
 
 // Whether the literal at a place may stand there: in a body it may be u.
+#[tactic(auto, unfolding(papers::specs::Content::literal_allowed))]
 fn is_allowed(content: &[u8], place: usize, atoms: u16, in_body: bool) -> bool
     requires { place + 1 < length content.now }
     ensures { result ≡ literal_allowed in_body atoms (number_in content.now place) }
 {
     if in_body {
-        return is_body_listed(body_literal_at(content, place), atoms);
+        is_body_listed(body_literal_at(content, place), atoms)
+    } else {
+        literals::is_literal_listed(literal_at(content, place), atoms)
     }
-    literals::is_literal_listed(literal_at(content, place), atoms)
 }
 
-pub fn literals_fault(content: &[u8], atoms: u16, in_body: bool) -> u8
-    ensures { result ≡ literals_fault in_body atoms (numbers content.now) }
+// The literals of a body, or of a query.
+pub fn check_literals(content: &[u8], atoms: u16, in_body: bool) -> Result<(), Fault>
+    ensures { check_told result ≡ literals_fault in_body atoms (numbers content.now) }
 {
-    let count = content.len() / 2;
-    let mut i: usize = 0;
-    while i < count {
+    for i in 0..content.len() / 2 {
         if !is_allowed(content, 2 * i, atoms, in_body) {
-            return 6;
+            return Err(Fault::Unlisted);
         }
-        i += 1;
     }
-    0
+    Ok(())
 }
 
-pub fn abducibles_fault(content: &[u8], atoms: u16) -> u8
-    ensures { result ≡ abducibles_fault atoms 0 (numbers content.now) }
+pub fn check_abducibles(content: &[u8], atoms: u16) -> Result<(), Fault>
+    ensures { check_told result ≡ abducibles_fault atoms 0 (numbers content.now) }
 {
-    let count = content.len() / 2;
     let mut least: u32 = 0;
-    let mut i: usize = 0;
-    while i < count {
-        let atom = atom_at(content, 2 * i);
-        let number = atom.0 as u32;
-        if atoms as u32 <= number {
-            return 6;
+    for i in 0..content.len() / 2 {
+        let atom = u32::from(atom_at(content, 2 * i).0);
+        if u32::from(atoms) <= atom {
+            return Err(Fault::Unlisted);
         }
-        if number < least {
-            return 7;
+        if atom < least {
+            return Err(Fault::Disorder);
         }
-        least = number + 1;
-        i += 1;
+        least = atom + 1;
     }
-    0
+    Ok(())
 }
 
 pub fn is_among(abducibles: &[u8], atom: Atom) -> bool
     ensures { result ≡ is_among (numbers abducibles.now) atom.0 }
 {
-    let count = abducibles.len() / 2;
-    let mut i: usize = 0;
-    while i < count {
-        let listed = atom_at(abducibles, 2 * i);
-        if listed.0 == atom.0 {
+    for i in 0..abducibles.len() / 2 {
+        if atom_at(abducibles, 2 * i).0 == atom.0 {
             return true;
         }
-        i += 1;
     }
     false
 }
 
 // A rule's head, then its body, which is the rest of the content. A head that is not below 2n is of no atom.
-fn rule_fault(content: &[u8], abducibles: &[u8], atoms: u16) -> u8
+fn check_rule(content: &[u8], abducibles: &[u8], atoms: u16) -> Result<(), Fault>
     requires { 1 < length content.now }
-    ensures { result ≡ rule_fault atoms (numbers abducibles.now) (numbers content.now) }
+    ensures { check_told result ≡ rule_fault atoms (numbers abducibles.now) (numbers content.now) }
 {
-    let head = conjugates::atom_of(objective_at(content, 0), atoms);
-    let AtomOf::Is(atom) = head else {
-        return 6;
+    let AtomOf::Is(atom) = conjugates::atom_of(objective_at(content, 0), atoms) else {
+        return Err(Fault::Unlisted);
     };
     if is_among(abducibles, atom) {
-        return 8;
+        return Err(Fault::FixedFault);
     }
-    literals_fault(&content[2..], atoms, true)
+    check_literals(&content[2..], atoms, true)
 }
 
-pub fn body_fault(tag: u8, content: &[u8], abducibles: &[u8], atoms: u16) -> u8
+// A rule, or the body of an integrity rule, by its tag.
+#[tactic(auto, unfolding(papers::specs::Content::body_fault))]
+pub fn check_body(tag: u8, content: &[u8], abducibles: &[u8], atoms: u16) -> Result<(), Fault>
     requires { tag ≡ 4 → 1 < length content.now }
-    ensures { result ≡ body_fault tag atoms (numbers abducibles.now) (numbers content.now) }
+    ensures { check_told result ≡ body_fault tag atoms (numbers abducibles.now) (numbers content.now) }
 {
-    if tag == 0x04 {
-        return rule_fault(content, abducibles, atoms);
+    if tag == tags::RULE {
+        check_rule(content, abducibles, atoms)
+    } else {
+        check_literals(content, atoms, true)
     }
-    literals_fault(content, atoms, true)
 }

@@ -3,7 +3,7 @@
 use mathlib.Core.Path.{◌≡◌, refl, sym, ap, ◌∙◌}
 use mathlib.Core.Bool.{true, true≢false}
 use Prim.Native.Nat.{ℕ}
-use Rattle.std.specs.Prelude.{Ok, Err, MatchResult, is_ok}
+use Rattle.std.specs.Prelude.{Ok, Err, MatchResult, IsErrAnd, is_ok}
 use Rattle.std.specs.declared.result.Result.{Result}
 use Rattle.papers.specs.declared.Paper.{Paper}
 use Rattle.papers.specs.declared.Fault.{Fault}
@@ -63,6 +63,13 @@ module _ {A B C : Type 0} (means : C → B) (values : A → B) (o : Outcome A) w
   pub err_told : (r : declared.Refusal) → o ≡ refused (refusal_of r) → value_told means (Err r) ≡ read_told values o
   unfolding value_told read_told
   err_told r e = rw e
+
+  -- A `?` hands the refusal on.
+  pub handed_on : (got : Result C declared.Refusal) (r : declared.Refusal) → IsErrAnd got (λ s. s ≡ r) → o ≡ refused (refusal_of r)
+      → value_told means got ≡ read_told values o
+  unfolding value_told read_told
+  handed_on (Ok c) r h e = absurd h
+  handed_on (Err s) r h e = rw (h, e)
 
 -- ---- of what a test answered
 

@@ -1,11 +1,14 @@
 -- One turn of `read_run`, as the loop of `read_run` meets it.
 -- Assumes nothing.
-use mathlib.Core.Path.{◌≡◌, refl, ap}
-use mathlib.Core.Bool.{Bool, true, false}
-use mathlib.Core.List.{List, []}
+use mathlib.Core.Path.{◌≡◌, refl, sym, ap}
+use mathlib.Core.Bool.{Bool, true, false, true≢false}
+use mathlib.Core.List.{List, [], ◌∷◌}
 use Prim.Native.Nat.{ℕ, zero, suc, ◌+◌}
 use native.Mathlib.Omega.{arith}
-use borrow.Author.Tests.{eq-eqb, ne_eqb}
+use borrow.Author.Tests.{eq-eqb, ne_eqb, eqb-true, eqb-false}
+use lib.Dec.{eqb}
+use Rattle.std.specs.Prelude.{Some, slice_get}
+use Rattle.std.specs.Option.{option_eq}
 use lib.ListN.{length, get_or, drop}
 use Rattle.papers.specs.declared.Paper.TheVariants.{File}
 use Rattle.papers.specs.declared.Fault.{Fault}
@@ -16,6 +19,19 @@ use Rattle.papers.specs.Reading.{Run, run_from, one_more, read_run}
 use Rattle.papers.specs.Answers.{run_of}
 use Rattle.papers.specs.Told.{tells, fault_number, read_told}
 use Rattle.papers.proofs.ReadersGot.{failed_refuses}
+
+-- The tag at a place, where the code asks for one: none is 0.
+pub tag_found : (tag place : ℕ) (bytes : List ℕ) → option_eq eqb (slice_get bytes place) (Some tag) ≡ true → get_or (drop place bytes) 0 0 ≡ tag
+tag_found tag place [] e = absurd (true≢false (sym e))
+tag_found tag zero (b ∷ bytes) e = eqb-true b tag e
+tag_found tag (suc place) (b ∷ bytes) e = tag_found tag place bytes e
+
+pub tag_other : (tag place : ℕ) (bytes : List ℕ) → (tag ≡ 0 → ⊥) → option_eq eqb (slice_get bytes place) (Some tag) ≡ false
+    → get_or (drop place bytes) 0 0 ≡ tag → ⊥
+tag_other tag zero [] some e is = some (sym is)
+tag_other tag (suc place) [] some e is = some (sym is)
+tag_other tag zero (b ∷ bytes) some e is = eqb-false b tag e is
+tag_other tag (suc place) (b ∷ bytes) some e is = tag_other tag place bytes some e is
 
 -- A field in front of others counts one more.
 counted : (count : ℕ) (content : List ℕ) (o : Outcome Run)

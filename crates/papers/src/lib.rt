@@ -8,11 +8,17 @@ ghost use Rattle.papers.specs.Told.{fault_number, bare_number};
 // The tags of a file's fields and of a sheet's.
 pub mod tags {
     pub const EDITION: u8 = 0x01;
+
     pub const ATOMS: u8 = 0x02;
+
     pub const ABDUCIBLES: u8 = 0x03;
+
     pub const RULE: u8 = 0x04;
+
     pub const INTEGRITY: u8 = 0x05;
+
     pub const QUERY: u8 = 0x06;
+
     pub const END: u8 = 0x7F;
 }
 

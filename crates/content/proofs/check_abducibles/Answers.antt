@@ -1,37 +1,36 @@
--- `content::abducibles_fault` meets its contract. The loop's invariant: what is asked of all atoms is asked of those from the i-th on.
+-- `content::check_abducibles` meets its contract. The loop's invariant: what is asked of all atoms is asked of those from the i-th on.
 use native.Mathlib.Omega.{arith}
-use mathlib.Core.Path.{refl, sym, ◌∙◌}
+use mathlib.Core.Path.{sym, ◌∙◌}
+use Rattle.papers.specs.Told.{check_told}
 use Rattle.papers.proofs.NumbersWalked.{abducibles_done, abducibles_unlisted, abducibles_disorder, abducibles_next}
-use Rattle.content.proofs.abducibles_fault.Goals as goal
+use Rattle.content.proofs.check_abducibles.Goals as goal
 
--- ---- once the i-th atom is read
-
-pub loop-i-init : goal.loop-i-init
-loop-i-init c = (omega arith, refl)
-
-pub returns-then-atoms-number : goal.returns-then-atoms-number
-returns-then-atoms-number c =
+pub returns-then-from-atom : goal.returns-then-from-atom
+unfolding check_told
+returns-then-from-atom c =
     let a = c.args in
-    sym
-    (c.loop-i.invariant.1
-    ∙ abducibles_unlisted a.content.now _ a.atoms c.loop-i-test.true c.atom_at-atom.ensures _ c.if-atoms-number.true)
+    let here = c.from-atom.ensures ∙ c.atom_at.ensures in
+    let past = c.if-from-atom.true in
+    let n = c.from.ensures in
+    sym (c.loop-i.invariant ∙ abducibles_unlisted a.content.now _ a.atoms c.loop-i-test.true here _ (omega arith))
 
-pub returns-then-number-least : goal.returns-then-number-least
-returns-then-number-least c =
+pub returns-then-atom-least : goal.returns-then-atom-least
+unfolding check_told
+returns-then-atom-least c =
     let a = c.args in
-    sym
-    (c.loop-i.invariant.1
-    ∙ abducibles_disorder a.content.now _ a.atoms c.loop-i-test.true c.atom_at-atom.ensures _ c.if-atoms-number.false c.if-number-least.true)
+    let here = c.from-atom.ensures ∙ c.atom_at.ensures in
+    let below = c.if-from-atom.false in
+    let n = c.from.ensures in
+    sym (c.loop-i.invariant ∙ abducibles_disorder a.content.now _ a.atoms c.loop-i-test.true here _ (omega arith) c.if-atom-least.true)
 
 pub loop-i-preserved : goal.loop-i-preserved
 loop-i-preserved c =
-    let a = c.args in (
-      omega arith,
-      c.loop-i.invariant.1
-          ∙ abducibles_next a.content.now _ a.atoms c.loop-i-test.true c.atom_at-atom.ensures _ c.if-atoms-number.false c.if-number-least.false,
-    )
+    let a = c.args in
+    let here = c.from-atom.ensures ∙ c.atom_at.ensures in
+    let below = c.if-from-atom.false in
+    let n = c.from.ensures in
+    c.loop-i.invariant ∙ abducibles_next a.content.now _ a.atoms c.loop-i-test.true here _ (omega arith) c.if-atom-least.false
 
 pub returns : goal.returns
-returns c =
-    let a = c.args in
-    sym (c.loop-i.invariant.1 ∙ abducibles_done a.content.now _ a.atoms _ c.loop-i-test.false)
+unfolding check_told
+returns c = let a = c.args in sym (c.loop-i.invariant ∙ abducibles_done a.content.now _ a.atoms _ c.loop-i-test.false)

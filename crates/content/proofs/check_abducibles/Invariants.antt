@@ -1,14 +1,11 @@
--- `content::abducibles_fault` meets its contract. The loop's invariant: what is asked of all atoms is asked of those from the i-th on.
+-- `content::check_abducibles` meets its contract. The loop's invariant: what is asked of all atoms is asked of those from the i-th on.
 use mathlib.Core.Path.{◌≡◌}
-use Prim.Native.Nat.{◌≤◌, ◌-◌, ◌*◌}
+use Prim.Native.Nat.{◌*◌}
 use lib.ListN.{drop}
 use Rattle.papers.specs.Field.{numbers}
 use Rattle.papers.specs.Content.{abducibles_fault}
-use Rattle.content.proofs.abducibles_fault.Given as goal
+use Rattle.content.proofs.check_abducibles.Given as goal
 
 abbrev pub invariant-loop-i : goal.invariant-loop-i
 invariant-loop-i l =
-    (l.i ≤ l.count) × (abducibles_fault l.atoms 0 (numbers l.content) ≡ abducibles_fault l.atoms l.least (numbers (drop (2 * l.i) l.content)))
-
-abbrev pub decreases-loop-i : goal.decreases-loop-i
-decreases-loop-i l = l.count - l.i
+    abducibles_fault l.atoms 0 (numbers l.content) ≡ abducibles_fault l.atoms l.least (numbers (drop (2 * l.i) l.content))

@@ -1,6 +1,6 @@
 -- `content::is_among` meets its contract. The loop's invariant: what is asked of all abducibles is asked of those from the i-th on.
 use mathlib.Core.Path.{◌≡◌}
-use Prim.Native.Nat.{◌≤◌, ◌-◌, ◌*◌}
+use Prim.Native.Nat.{◌*◌}
 use lib.ListN.{drop}
 use Rattle.papers.specs.Field.{numbers}
 use Rattle.papers.specs.Content.{is_among}
@@ -8,7 +8,4 @@ use Rattle.content.proofs.is_among.Given as goal
 
 abbrev pub invariant-loop-i : goal.invariant-loop-i
 invariant-loop-i l =
-    (l.i ≤ l.count) × (is_among (numbers l.abducibles) l.atom.0 ≡ is_among (numbers (drop (2 * l.i) l.abducibles)) l.atom.0)
-
-abbrev pub decreases-loop-i : goal.decreases-loop-i
-decreases-loop-i l = l.count - l.i
+    is_among (numbers l.abducibles) l.atom.0 ≡ is_among (numbers (drop (2 * l.i) l.abducibles)) l.atom.0

@@ -1,78 +1,60 @@
 -- `reading::read_file` meets its contract: a law takes what each read gave to the answer.
-use mathlib.Core.Path.{◌≡◌, ◌∙◌}
-use mathlib.Core.List.{List}
-use Prim.Native.Nat.{ℕ, ◌≤◌}
-use native.Mathlib.Omega.{arith}
-use lib.ListN.{length}
+use mathlib.Core.Path.{◌≡◌, ap, ◌∙◌}
 use Rattle.papers.specs.Outcome.{accepted}
+use Rattle.papers.specs.Field.{numbers}
 use Rattle.papers.specs.Reading.{read_edition, read_atoms, read_abducibles}
-use Rattle.papers.proofs.ReadersGot.{Listed, number_accepted, number_refused, count_accepted, count_refused}
-use Rattle.papers.proofs.WholePapers.{file_edition, edition_within, file_atoms, atoms_within, file_abducibles, listed_are, file_rules}
-use Rattle.papers.proofs.ToldLaws.{file_tells}
+use Rattle.papers.specs.Answers.{contents_of}
+use Rattle.papers.specs.Told.{read_told}
+use Rattle.papers.proofs.ReadersGot.{got_accepted, got_refused, handed_on}
+use Rattle.papers.proofs.WholePapers.{file_edition, edition_within, file_atoms, atoms_within, file_abducibles, abducibles_within, file_rules}
 use Rattle.reading.proofs.read_file.Goals as goal
-use Rattle.reading.proofs.read_file.Goals.{In-Number, In-Number-counted, In-Number-listed}
+use Rattle.reading.proofs.read_file.Goals.{In_ok-read_edition, In_ok-atoms, In_ok-abducibles}
 
--- ---- once the edition is read
+edition : (c : In_ok-read_edition) → read_edition c.args.file.now ≡ accepted c.in_ok-read_edition.field-0
+edition c = let r = got_accepted _ _ (read_edition c.args.file.now) c.read_edition.ensures c.in_ok-read_edition.was in r.is ∙ ap accepted r.tells_it
 
-module _ (c : In-Number) where
-  abbrev file : List ℕ
-  file = c.args.file.now
+atoms : (c : In_ok-atoms) → read_atoms c.args.file.now ≡ accepted c.in_ok-atoms.atoms
+atoms c = let r = got_accepted _ _ (read_atoms c.args.file.now) c.read_atoms.ensures c.in_ok-atoms.was in r.is ∙ ap accepted r.tells_it
 
-  edition_read : read_edition file ≡ accepted c.in-Number.field-0
-  edition_read = number_accepted _ c.read_edition-edition.ensures c.in-Number.is
+listed : (c : In_ok-abducibles) → read_abducibles c.in_ok-atoms.atoms c.args.file.now ≡ accepted (numbers c.in_ok-abducibles.abducibles.now)
+listed c =
+    let r = got_accepted _ _ (read_abducibles c.in_ok-atoms.atoms c.args.file.now) c.read_abducibles.ensures c.in_ok-abducibles.was in
+    r.is ∙ ap accepted r.tells_it
 
--- ---- once the atoms are read
+pub returns-in_err-read_edition : goal.returns-in_err-read_edition
+returns-in_err-read_edition c =
+    let e = got_refused _ _ (read_edition c.args.file.now) c.read_edition.ensures c.in_err-read_edition.was in
+    handed_on _ _ _ _ _ c.from_residual.ensures.1 (file_edition c.args.file.now e)
 
-module _ (c : In-Number-counted) where
-  abbrev atoms : ℕ
-  atoms = c.in-Number-counted.atoms
+pub read_atoms-requires : goal.read_atoms-requires
+read_atoms-requires c = edition_within c.args.file.now (edition (goal.at.read_atoms-requires c).In_ok-read_edition)
 
-  atoms_read : read_atoms (file (goal.at.In-Number-counted c).In-Number) ≡ accepted atoms
-  atoms_read = number_accepted _ c.read_atoms-counted.ensures c.in-Number-counted.is
+pub returns-in_err-atoms : goal.returns-in_err-atoms
+returns-in_err-atoms c =
+    let e = got_refused _ _ (read_atoms c.args.file.now) c.read_atoms.ensures c.in_err-atoms.was in
+    handed_on _ _ _ _ _ c.from_residual-in_err-atoms.ensures.1
+    (file_atoms c.args.file.now (edition (goal.at.returns-in_err-atoms c).In_ok-read_edition) e)
 
-  within : (9 ≤ length (file (goal.at.In-Number-counted c).In-Number)) × (atoms ≤ 256)
-  within = atoms_within (file (goal.at.In-Number-counted c).In-Number) (edition_read (goal.at.In-Number-counted c).In-Number) atoms_read
+pub read_abducibles-requires : goal.read_abducibles-requires
+read_abducibles-requires c =
+    let at = goal.at.read_abducibles-requires c in
+    atoms_within c.args.file.now (edition at.In_ok-read_edition) (atoms at.In_ok-atoms)
 
--- ---- once the abducibles are read
-
-module _ (c : In-Number-listed) where
-  listed : Listed (read_abducibles (atoms (goal.at.In-Number-listed c).In-Number-counted) (file (goal.at.In-Number-listed c).In-Number)) c.in-Number-listed.abducibles
-  listed = count_accepted _ c.read_abducibles-listed.ensures c.in-Number-listed.is
-
-pub returns-in_default : goal.returns-in_default
-returns-in_default c =
-    file_tells _
-    (file_edition c.args.file.now
-    (number_refused _ c.read_edition-edition.ensures (c.in_default.is ∙ c.in-Refused.is)))
-
-pub read_atoms-counted-requires : goal.read_atoms-counted-requires
-read_atoms-counted-requires c = edition_within (file (goal.at.read_atoms-counted-requires c).In-Number) (edition_read (goal.at.read_atoms-counted-requires c).In-Number)
-
-pub returns-in_default-counted : goal.returns-in_default-counted
-returns-in_default-counted c =
-    file_tells _
-    (file_atoms (file (goal.at.returns-in_default-counted c).In-Number) (edition_read (goal.at.returns-in_default-counted c).In-Number)
-    (number_refused _ c.read_atoms-counted.ensures (c.in_default-counted.is ∙ c.in-Refused-counted.is)))
-
-pub overflow_cast-atoms : goal.overflow_cast-atoms
-overflow_cast-atoms c = omega (arith, (within (goal.at.overflow_cast-atoms c).In-Number-counted).1)
-
-pub read_abducibles-listed-requires : goal.read_abducibles-listed-requires
-read_abducibles-listed-requires c = (within (goal.at.read_abducibles-listed-requires c).In-Number-counted).0
-
-pub returns-in_default-listed : goal.returns-in_default-listed
-returns-in_default-listed c =
-    file_tells _
-    (file_abducibles (file (goal.at.returns-in_default-listed c).In-Number) (edition_read (goal.at.returns-in_default-listed c).In-Number) (atoms_read (goal.at.returns-in_default-listed c).In-Number-counted)
-    (count_refused _ c.read_abducibles-listed.ensures (c.in_default-listed.is ∙ c.in-Refused-listed.is)))
-
-pub overflow_cast-atoms-2 : goal.overflow_cast-atoms-2
-overflow_cast-atoms-2 c = omega (arith, (within (goal.at.overflow_cast-atoms-2 c).In-Number-counted).1)
+pub returns-in_err-abducibles : goal.returns-in_err-abducibles
+returns-in_err-abducibles c =
+    let at = goal.at.returns-in_err-abducibles c in
+    let e = got_refused _ _ (read_abducibles c.in_ok-atoms.atoms c.args.file.now) c.read_abducibles.ensures c.in_err-abducibles.was in
+    handed_on _ _ _ _ _ c.from_residual-in_err-abducibles.ensures.1
+    (file_abducibles c.args.file.now (edition at.In_ok-read_edition) (atoms at.In_ok-atoms) e)
 
 pub read_rules-requires : goal.read_rules-requires
 read_rules-requires c =
-    (listed_are (file (goal.at.read_rules-requires c).In-Number) (edition_read (goal.at.read_rules-requires c).In-Number) (atoms_read (goal.at.read_rules-requires c).In-Number-counted) (listed (goal.at.read_rules-requires c).In-Number-listed)).0
+    let at = goal.at.read_rules-requires c in
+    abducibles_within c.args.file.now (edition at.In_ok-read_edition) (atoms at.In_ok-atoms) (listed at.In_ok-abducibles)
 
 pub returns : goal.returns
 returns c =
-    file_tells _ (c.read_rules.ensures ∙ file_rules (file (goal.at.returns c).In-Number) (edition_read (goal.at.returns c).In-Number) (atoms_read (goal.at.returns c).In-Number-counted) (listed (goal.at.returns c).In-Number-listed))
+    let at = goal.at.returns c in
+    c.read_rules.ensures
+    ∙ ap (read_told contents_of)
+    (file_rules c.args.file.now (edition at.In_ok-read_edition) (atoms at.In_ok-atoms) (listed at.In_ok-abducibles))

@@ -1,39 +1,30 @@
 -- `reading::read_papers` meets its contract.
-use mathlib.Core.Path.{◌∙◌}
-use mathlib.Core.List.{List}
-use Prim.Native.Nat.{ℕ}
-use Rattle.papers.specs.Reading.{read_file}
-use Rattle.papers.proofs.ReadersGot.{Filed, file_accepted, file_refused, count_accepted, count_refused}
-use Rattle.papers.proofs.WholePapers.{papers_file, papers_sheet, papers_both}
-use Rattle.papers.proofs.ToldLaws.{file_told_lem, papers_tells}
+use lib.ListN.{length}
+use Rattle.papers.specs.Reading.{read_file, read_sheet}
+use Rattle.papers.specs.Answers.{contents_of}
+use Rattle.papers.proofs.ReadersGot.{Read, got_accepted, got_refused, ok_told, handed_on}
+use Rattle.papers.proofs.WholePapers.{papers_refused, papers_sheet, papers_both}
 use Rattle.reading.proofs.read_papers.Goals as goal
-use Rattle.reading.proofs.read_papers.Goals.{In-Accepted}
+use Rattle.reading.proofs.read_papers.Goals.{In_ok-contents}
 
--- ---- once the file is accepted
+filed : (c : In_ok-contents) → Read contents_of (read_file c.args.file.now) c.in_ok-contents.contents
+filed c = got_accepted _ _ _ c.read_file.ensures c.in_ok-contents.was
 
-module _ (c : In-Accepted) where
-  abbrev file : List ℕ
-  file = c.args.file.now
-
-  abbrev sheet : List ℕ
-  sheet = c.args.sheet.now
-
-  filed : Filed (read_file file) c.in-Accepted.contents
-  filed = file_accepted _ (file_told_lem _ c.read_file-program.ensures) c.in-Accepted.is
-
-pub returns-in_default : goal.returns-in_default
-returns-in_default c =
+pub returns-in_err-contents : goal.returns-in_err-contents
+returns-in_err-contents c =
     let a = c.args in
-    papers_tells _
-    (papers_file a.file.now a.sheet.now
-    (file_refused _ (file_told_lem _ c.read_file-program.ensures) (c.in_default.is ∙ c.in-Refused.is)))
+    let e = got_refused _ _ (read_file a.file.now) c.read_file.ensures c.in_err-contents.was in
+    handed_on _ _ _ _ _ c.from_residual.ensures.1 (papers_refused a.file.now a.sheet.now e)
 
-pub returns-in_default-query : goal.returns-in_default-query
-returns-in_default-query c =
-    papers_tells _
-    (papers_sheet (file (goal.at.returns-in_default-query c).In-Accepted) (sheet (goal.at.returns-in_default-query c).In-Accepted) (filed (goal.at.returns-in_default-query c).In-Accepted)
-    (count_refused _ c.read_sheet-query.ensures (c.in_default-query.is ∙ c.in-Refused-query.is)))
+pub returns-in_err-literals : goal.returns-in_err-literals
+returns-in_err-literals c =
+    let a = c.args in
+    let e = got_refused _ length (read_sheet c.in_ok-contents.contents.atoms a.sheet.now) c.read_sheet.ensures c.in_err-literals.was in
+    handed_on _ _ _ _ _ c.from_residual-in_err-literals.ensures.1
+    (papers_sheet a.file.now a.sheet.now (filed (goal.at.returns-in_err-literals c).In_ok-contents) e)
 
 pub returns : goal.returns
 returns c =
-    papers_tells _ (papers_both (file (goal.at.returns c).In-Accepted) (sheet (goal.at.returns c).In-Accepted) (filed (goal.at.returns c).In-Accepted) (count_accepted _ c.read_sheet-query.ensures c.in-Number.is))
+    let a = c.args in
+    let query = got_accepted _ length (read_sheet c.in_ok-contents.contents.atoms a.sheet.now) c.read_sheet.ensures c.in_ok-literals.was in
+    ok_told _ _ _ (papers_both a.file.now a.sheet.now (filed (goal.at.returns c).In_ok-contents) query)

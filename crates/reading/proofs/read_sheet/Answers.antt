@@ -1,72 +1,60 @@
--- `reading::read_sheet` meets its contract.
-use mathlib.Core.Path.{◌≡◌, sym, ap, ◌∙◌}
+-- `reading::read_sheet` meets its contract: a law takes what the field, its test and the end gave to the answer.
+use mathlib.Core.Path.{◌≡◌}
 use mathlib.Core.Bool.{false}
-use mathlib.Core.List.{List}
-use Prim.Native.Nat.{ℕ, ◌+◌, ◌-◌, ◌/◌}
+use Prim.Native.Nat.{◌+◌}
 use native.Mathlib.Omega.{arith}
-use lib.ListN.{length, take, drop}
+use Rattle.std.proofs.Common.{rules}
+use lib.ListN.{length}
 use Rattle.papers.specs.declared.Paper.TheVariants.{Sheet}
-use Rattle.papers.specs.declared.NumberRead.TheVariants.{Number}
-use Rattle.papers.specs.Reading.{read_sheet}
-use Rattle.papers.proofs.FieldGot.{Got, got_content, got_refused}
-use Rattle.papers.proofs.ReadersGot.{number_accepted, number_refused}
+use Rattle.papers.specs.Field.{numbers, read_field}
+use Rattle.papers.specs.Content.{literals_fault}
+use Rattle.papers.specs.Reading.{read_end, read_sheet}
+use Rattle.papers.proofs.FieldGot.{Got, got_content}
+use Rattle.papers.proofs.NumbersWalked.{count_numbers}
+use Rattle.papers.proofs.ReadersGot.{got_accepted, got_refused, ok_told, handed_on, check_passed, check_failed, mapped_passed, mapped_failed}
 use Rattle.papers.proofs.WholePapers.{sheet_fault, sheet_end, sheet_query}
 use Rattle.reading.proofs.read_sheet.Goals as goal
-use Rattle.reading.proofs.read_sheet.Goals.{In-Content}
+use Rattle.reading.proofs.read_sheet.Goals.{In_ok-query, In_ok-map_err}
 
--- ---- once the field is whole
+field : (c : In_ok-query) → Got Sheet 0x06 false 0 c.args.sheet.now c.in_ok-query.query.now
+field c = got_content _ _ _ _ _ c.read_field.ensures c.in_ok-query.was
 
-module _ (c : In-Content) where
-  abbrev sheet : List ℕ
-  sheet = c.args.sheet.now
+none : (c : In_ok-map_err) → literals_fault false c.args.atoms (numbers c.in_ok-query.query.now) ≡ 0
+none c = check_passed c.check_literals.ensures (mapped_passed _ c.in_ok-map_err.ensures.variant)
 
-  abbrev from : ℕ
-  from = c.in-Content.start
-
-  abbrev end : ℕ
-  end = c.in-Content.end
-
-  field : Got Sheet 0x06 false 0 sheet from end
-  field = got_content _ _ _ _ _ c.read_field-got.ensures _ _ c.in-Content.is
-
-  -- It ends where the next one is read.
-  ends : end ≡ 3 + length (take (end - from) (drop from sheet))
-  ends = let f = field in omega (arith, f.starts, f.sized, f.ordered)
-
-pub returns-in_default : goal.returns-in_default
+pub returns-in_err-query : goal.returns-in_err-query
 unfolding read_sheet
-returns-in_default c =
+returns-in_err-query c =
+    let e = got_refused _ _ (read_field Sheet 0x06 false 0 c.args.sheet.now) c.read_field.ensures c.in_err-query.was in
+    handed_on _ _ _ _ _ c.from_residual.ensures.1 (rw e)
+
+pub returns-in_err-map_err : goal.returns-in_err-map_err
+returns-in_err-map_err c =
     let a = c.args in
-    rw (got_refused Sheet 0x06 false 0 a.sheet.now c.read_field-got.ensures (c.in_default.is ∙ c.in-Refused.is))
+    let m = mapped_failed c.check_literals.result _ _ c.in_err-map_err.ensures.cases in
+    let at : c.in_err-map_err.field-0.0 ≡ record { fault = m.0; paper = Sheet; place = 0 } = search (rules, m.2) in
+    let f = field (goal.at.returns-in_err-map_err c).In_ok-query in
+    handed_on _ _ _ _ _ c.from_residual-in_err-map_err.ensures.1
+    (rw at (sheet_fault a.atoms a.sheet.now _ f.read _ (check_failed c.check_literals.ensures m.1)))
 
-pub slice_bounds-literals_fault-count : goal.slice_bounds-literals_fault-count
-slice_bounds-literals_fault-count c = (field (goal.at.slice_bounds-literals_fault-count c).In-Content).ordered
+pub read_end-requires : goal.read_end-requires
+read_end-requires c = omega (arith, (field (goal.at.read_end-requires c).In_ok-query).whole.within)
 
-pub slice_bounds-literals_fault-start : goal.slice_bounds-literals_fault-start
-slice_bounds-literals_fault-start c = (field (goal.at.slice_bounds-literals_fault-start c).In-Content).ordered
-
-pub slice_bounds-literals_fault-end : goal.slice_bounds-literals_fault-end
-slice_bounds-literals_fault-end c = (field (goal.at.slice_bounds-literals_fault-end c).In-Content).within
-
-pub returns-then-fault-ne0 : goal.returns-then-fault-ne0
-returns-then-fault-ne0 c =
-    sheet_fault c.args.atoms (sheet (goal.at.returns-then-fault-ne0 c).In-Content) _ (field (goal.at.returns-then-fault-ne0 c).In-Content).read c.literals_fault-fault.ensures c.if-fault-ne0.true
-
-pub read_end-last-requires : goal.read_end-last-requires
-read_end-last-requires c = (field (goal.at.read_end-last-requires c).In-Content).within
-
-pub returns-in_default-last : goal.returns-in_default-last
-returns-in_default-last c =
-    c.in_default-last.is
-    ∙ sheet_end c.args.atoms (sheet (goal.at.returns-in_default-last c).In-Content) _ (field (goal.at.returns-in_default-last c).In-Content).read c.literals_fault-fault.ensures c.if-fault-ne0.false (ends (goal.at.returns-in_default-last c).In-Content)
-    (number_refused _ c.read_end-last.ensures c.in_default-last.is)
-
-pub overflow_sub-result : goal.overflow_sub-result
-overflow_sub-result c =
-    (field (goal.at.overflow_sub-result c).In-Content).ordered
+pub returns-in_err-read_end : goal.returns-in_err-read_end
+returns-in_err-read_end c =
+    let a = c.args in
+    let at = goal.at.returns-in_err-read_end c in
+    let e = got_refused _ _ (read_end Sheet (3 + length c.in_ok-query.query.now) a.sheet.now) c.read_end.ensures c.in_err-read_end.was in
+    handed_on _ _ _ _ _ c.from_residual-in_err-read_end.ensures.1
+    (sheet_end a.atoms a.sheet.now _ (field at.In_ok-query).read (none at.In_ok-map_err) e)
 
 pub returns : goal.returns
 returns c =
-    ap (λ (k : ℕ). Number (k / 2)) (sym (field (goal.at.returns c).In-Content).sized)
-    ∙ sheet_query c.args.atoms (sheet (goal.at.returns c).In-Content) _ (field (goal.at.returns c).In-Content).read c.literals_fault-fault.ensures c.if-fault-ne0.false (ends (goal.at.returns c).In-Content)
-    (number_accepted _ c.read_end-last.ensures c.in-Number.is)
+    let a = c.args in
+    let at = goal.at.returns c in
+    let end = got_accepted _ _ (read_end Sheet (3 + length c.in_ok-query.query.now) a.sheet.now) c.read_end.ensures c.in_ok-read_end.was in
+    ok_told _ _ _ (record {
+      value = _;
+      is = sheet_query a.atoms a.sheet.now _ (field at.In_ok-query).read (none at.In_ok-map_err) end.is;
+      tells_it = count_numbers c.in_ok-query.query.now;
+    })

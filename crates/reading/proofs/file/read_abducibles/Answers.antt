@@ -1,48 +1,36 @@
 -- `reading::file::read_abducibles` meets its contract.
-use mathlib.Core.Path.{◌∙◌}
+use mathlib.Core.Path.{◌≡◌, refl}
 use mathlib.Core.Bool.{false}
-use mathlib.Core.List.{List}
-use Prim.Native.Nat.{ℕ}
+use Rattle.std.proofs.Common.{rules}
 use Rattle.papers.specs.declared.Paper.TheVariants.{File}
+use Rattle.papers.specs.Field.{read_field}
 use Rattle.papers.specs.Reading.{read_abducibles}
-use Rattle.papers.proofs.Checks.{passing_refuses}
-use Rattle.papers.proofs.FieldGot.{Got, got_content, got_refused}
-use Rattle.papers.proofs.NumbersWalked.{count_numbers}
+use Rattle.papers.proofs.FieldGot.{Got, got_content}
+use Rattle.papers.proofs.ReadersGot.{got_refused, ok_told, handed_on, check_passed, check_failed, mapped_passed, mapped_failed, failed_refuses}
 use Rattle.reading.proofs.file.read_abducibles.Goals as goal
-use Rattle.reading.proofs.file.read_abducibles.Goals.{After-read_field-got, In-Content}
+use Rattle.reading.proofs.file.read_abducibles.Goals.{In_ok-content}
 
-abbrev file : After-read_field-got → List ℕ
-file c = c.before.before.args.file.now
+field : (c : In_ok-content) → Got File 0x03 false 9 c.args.file.now c.in_ok-content.content.now
+field c = got_content _ _ _ _ _ c.read_field.ensures c.in_ok-content.was
 
--- ---- once the field is whole
-
-module _ (c : In-Content) where
-  field : Got File 0x03 false 9 (file (goal.at.In-Content c).After-read_field-got) c.in-Content.start c.in-Content.end
-  field = got_content _ _ _ _ _ c.read_field-got.ensures _ _ c.in-Content.is
-
-pub returns-in_default : goal.returns-in_default
+pub returns-in_err-content : goal.returns-in_err-content
 unfolding read_abducibles
-returns-in_default c =
-    rw (got_refused File 0x03 false 9 (file (goal.at.returns-in_default c).After-read_field-got) c.read_field-got.ensures (c.in_default.is ∙ c.in-Refused.is))
+returns-in_err-content c =
+    let e = got_refused _ _ (read_field File 0x03 false 9 c.args.file.now) c.read_field.ensures c.in_err-content.was in
+    handed_on _ _ _ _ _ c.from_residual.ensures.1 (rw e)
 
-pub slice_bounds-abducibles_fault-count : goal.slice_bounds-abducibles_fault-count
-slice_bounds-abducibles_fault-count c = (field (goal.at.slice_bounds-abducibles_fault-count c).In-Content).ordered
-
-pub slice_bounds-abducibles_fault-start : goal.slice_bounds-abducibles_fault-start
-slice_bounds-abducibles_fault-start c = (field (goal.at.slice_bounds-abducibles_fault-start c).In-Content).ordered
-
-pub slice_bounds-abducibles_fault-end : goal.slice_bounds-abducibles_fault-end
-slice_bounds-abducibles_fault-end c = (field (goal.at.slice_bounds-abducibles_fault-end c).In-Content).within
-
-pub returns-then-fault-ne0 : goal.returns-then-fault-ne0
+pub returns-in_err-map_err : goal.returns-in_err-map_err
 unfolding read_abducibles
-returns-then-fault-ne0 c =
-    rw ((field (goal.at.returns-then-fault-ne0 c).In-Content).read, ← c.abducibles_fault-fault.ensures, passing_refuses _ File 9 _ c.if-fault-ne0.true)
-
-pub overflow_sub-result : goal.overflow_sub-result
-overflow_sub-result c = (field (goal.at.overflow_sub-result c).In-Content).ordered
+returns-in_err-map_err c =
+    let m = mapped_failed c.check_abducibles.result _ _ c.in_err-map_err.ensures.cases in
+    let at : c.in_err-map_err.field-0.0 ≡ record { fault = m.0; paper = File; place = 9 } = search (rules, m.2) in
+    let f = field (goal.at.returns-in_err-map_err c).In_ok-content in
+    handed_on _ _ _ _ _ c.from_residual-in_err-map_err.ensures.1
+    (rw (at, f.read) (failed_refuses _ File 9 _ (check_failed c.check_abducibles.ensures m.1)))
 
 pub returns : goal.returns
 unfolding read_abducibles
 returns c =
-    rw ((field (goal.at.returns c).In-Content).read, ← c.abducibles_fault-fault.ensures, c.if-fault-ne0.false, count_numbers, (field (goal.at.returns c).In-Content).sized)
+    let f = field (goal.at.returns c).In_ok-content in
+    let none = check_passed c.check_abducibles.ensures (mapped_passed _ c.in_ok-map_err.ensures.variant) in
+    ok_told _ _ _ (record { value = _; is = rw (f.read, none); tells_it = refl })

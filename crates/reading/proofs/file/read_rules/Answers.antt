@@ -1,89 +1,96 @@
 -- `reading::file::read_rules` meets its contract: a law takes what each read gave to the answer.
-use mathlib.Core.Path.{◌≡◌, ap, ◌∙◌}
+use mathlib.Core.Path.{◌≡◌, sym, ap, ◌∙◌}
 use mathlib.Core.List.{List}
-use Prim.Native.Nat.{ℕ, ◌+◌, ◌-◌, ◌*◌}
+use Prim.Native.Nat.{ℕ, ◌+◌, ◌*◌, ◌/◌}
 use native.Mathlib.Omega.{arith}
-use lib.ListN.{take, drop}
-use Rattle.papers.specs.declared.RunRead.{RunRead}
+use lib.ListN.{length}
+use Rattle.papers.specs.declared.Paper.TheVariants.{File}
 use Rattle.papers.specs.Outcome.{Outcome}
 use Rattle.papers.specs.Field.{numbers}
-use Rattle.papers.specs.Reading.{Run, read_run}
-use Rattle.papers.specs.Answers.{run_answer}
-use Rattle.papers.proofs.ReadersGot.{Ran, run_accepted, run_not, number_accepted, number_refused}
-use Rattle.papers.proofs.RulesToEnd.{listed_in, rules_refused, rules_within, integrity_refused, integrity_within, end_refused, all_accepted}
+use Rattle.papers.specs.Reading.{Run, first_rule, read_run, read_end}
+use Rattle.papers.specs.Answers.{run_of}
+use Rattle.papers.specs.Told.{read_told}
+use Rattle.papers.proofs.NumbersWalked.{count_numbers}
+use Rattle.papers.proofs.ReadersGot.{Read, got_accepted, got_refused, ok_told, handed_on}
+use Rattle.papers.proofs.RulesToEnd.{rules_refused, rules_within, integrity_refused, integrity_within, end_refused, all_accepted}
 use Rattle.reading.proofs.file.read_rules.Goals as goal
-use Rattle.reading.proofs.file.read_rules.Goals.{After-read_run-denials, After-read_run-rules, In-Run, In-Run-denials}
-
--- The part from place 12 on, as the code takes it and as the contract names it.
-listed_part : (count : ℕ) (bytes : List ℕ) → numbers (take (12 + 2 * count - 12) (drop 12 bytes)) ≡ listed_in count bytes
-listed_part count bytes = let e : 12 + 2 * count - 12 ≡ 2 * count = omega arith in ap (λ (k : ℕ). numbers (take k (drop 12 bytes))) e
-
-run_listed : (tag n count room place : ℕ) (bytes : List ℕ) {got : RunRead}
-    → got ≡ run_answer 0 (read_run tag n (numbers (take (12 + 2 * count - 12) (drop 12 bytes))) room place bytes)
-    → got ≡ run_answer 0 (read_run tag n (listed_in count bytes) room place bytes)
-run_listed tag n count room place bytes e = e ∙ ap (λ (l : List ℕ). run_answer 0 (read_run tag n l room place bytes)) (listed_part count bytes)
+use Rattle.reading.proofs.file.read_rules.Goals.{After-read_run, In_ok-rules, In_ok-integrity}
 
 -- ---- once the rules are asked for
 
-module _ (c : After-read_run-rules) where
-  abbrev file : List ℕ
-  file = c.args.file.now
+module _ (c : After-read_run) where
+  abbrev listed : List ℕ
+  listed = numbers c.args.abducibles.now
 
-  -- A run of the file's fields, as the contract names it.
+  -- A run of the file's fields.
   abbrev run : ℕ → ℕ → ℕ → Outcome Run
-  run tag limit place = read_run tag c.args.atoms (listed_in c.args.abducibles file) limit place file
+  run tag limit place = read_run tag c.args.atoms listed limit place c.args.file.now
 
-  rules_told : c.read_run-rules.result ≡ run_answer 0 (run 0x04 1024 (12 + 2 * c.args.abducibles))
-  rules_told = run_listed 0x04 c.args.atoms c.args.abducibles 1024 _ file c.read_run-rules.ensures
+  first_is : 12 + 2 * (length c.args.abducibles.now / 2) ≡ first_rule listed
+  first_is = let e = count_numbers c.args.abducibles.now in omega arith
 
--- ---- once they are read
-
-module _ (c : In-Run) where
-  -- The place after them.
-  abbrev next : ℕ
-  next = c.in-Run.next
-
-  rules_ran : Ran (run (goal.at.In-Run c).After-read_run-rules 0x04 1024 (12 + 2 * c.args.abducibles)) c.in-Run.count next
-  rules_ran = run_accepted _ (rules_told (goal.at.In-Run c).After-read_run-rules) c.in-Run.is
-
--- ---- once the integrity rules are asked for
-
-module _ (c : After-read_run-denials) where
-  integrity_told : c.read_run-denials.result ≡ run_answer 0 (run (goal.at.After-read_run-denials c).After-read_run-rules 0x05 256 (next (goal.at.After-read_run-denials c).In-Run))
-  integrity_told = run_listed 0x05 c.args.atoms c.args.abducibles 256 _ (file (goal.at.After-read_run-denials c).After-read_run-rules) c.read_run-denials.ensures
+  rules_asked : read_told (run_of 0) (run 0x04 1024 (12 + 2 * (length c.args.abducibles.now / 2))) ≡ read_told (run_of 0) (run 0x04 1024 (first_rule listed))
+  rules_asked = ap (λ (k : ℕ). read_told (run_of 0) (run 0x04 1024 k)) first_is
 
 -- ---- once they are read
 
-module _ (c : In-Run-denials) where
-  integrity_ran : Ran (run (goal.at.In-Run-denials c).After-read_run-rules 0x05 256 (next (goal.at.In-Run-denials c).In-Run)) c.in-Run-denials.more c.in-Run-denials.last
-  integrity_ran = run_accepted _ (integrity_told (goal.at.In-Run-denials c).After-read_run-denials) c.in-Run-denials.is
+module _ (c : In_ok-rules) where
+  abbrev asked : After-read_run
+  asked = (goal.at.In_ok-rules c).After-read_run
 
-pub returns-in_default : goal.returns-in_default
-returns-in_default c =
+  rules_ran : Read (run_of 0) (run asked 0x04 1024 (first_rule (listed asked))) c.in_ok-rules.rules
+  rules_ran = got_accepted _ _ _ (c.read_run.ensures ∙ rules_asked asked) c.in_ok-rules.was
+
+-- ---- once the integrity rules are read
+
+module _ (c : In_ok-integrity) where
+  abbrev rules_read : In_ok-rules
+  rules_read = (goal.at.In_ok-integrity c).In_ok-rules
+
+  integrity_ran : Read (run_of 0) (run (asked rules_read) 0x05 256 c.in_ok-rules.rules.next) c.in_ok-integrity.integrity
+  integrity_ran = got_accepted _ _ _ c.read_run-2.ensures c.in_ok-integrity.was
+
+pub read_run-requires-clause-place : goal.read_run-requires-clause-place
+read_run-requires-clause-place c = let e = count_numbers c.args.abducibles.now in let r = c.requires in omega arith
+
+pub returns-in_err-rules : goal.returns-in_err-rules
+returns-in_err-rules c =
     let a = c.args in
-    rules_refused a.atoms a.abducibles (file (goal.at.returns-in_default c).After-read_run-rules) c.requires
-    (run_not _ (rules_told (goal.at.returns-in_default c).After-read_run-rules) (c.in_default.is ∙ c.in-Refused.is))
+    let at = (goal.at.returns-in_err-rules c).After-read_run in
+    let e = got_refused _ (run_of 0) (run at 0x04 1024 (first_rule (listed at))) (c.read_run.ensures ∙ rules_asked at) c.in_err-rules.was in
+    handed_on _ _ _ _ _ c.from_residual.ensures.1 (rules_refused a.atoms (listed at) a.file.now c.requires e)
 
-pub read_run-denials-requires : goal.read_run-denials-requires
-read_run-denials-requires c =
-    (rules_within c.args.atoms c.args.abducibles c.args.file.now c.requires (rules_ran (goal.at.read_run-denials-requires c).In-Run), (λ e. omega arith, omega arith))
+pub read_run-requires-2-clause-place : goal.read_run-requires-2-clause-place
+read_run-requires-2-clause-place c =
+    let a = c.args in
+    rules_within a.atoms (numbers a.abducibles.now) a.file.now c.requires (rules_ran (goal.at.read_run-requires-2-clause-place c).In_ok-rules)
 
-pub returns-in_default-denials : goal.returns-in_default-denials
-returns-in_default-denials c =
-    integrity_refused c.args.atoms c.args.abducibles c.args.file.now c.requires (rules_ran (goal.at.returns-in_default-denials c).In-Run)
-    (run_not _ (integrity_told (goal.at.returns-in_default-denials c).After-read_run-denials) (c.in_default-denials.is ∙ c.in-Refused-denials.is))
+pub returns-in_err-integrity : goal.returns-in_err-integrity
+returns-in_err-integrity c =
+    let a = c.args in
+    let read = (goal.at.returns-in_err-integrity c).In_ok-rules in
+    let e = got_refused _ (run_of 0) (run (asked read) 0x05 256 c.in_ok-rules.rules.next) c.read_run-2.ensures c.in_err-integrity.was in
+    handed_on _ _ _ _ _ c.from_residual-in_err-integrity.ensures.1
+    (integrity_refused a.atoms (numbers a.abducibles.now) a.file.now c.requires (rules_ran read) e)
 
-pub read_end-end-requires : goal.read_end-end-requires
-read_end-end-requires c =
-    integrity_within c.args.atoms c.args.abducibles c.args.file.now c.requires (rules_ran (goal.at.read_end-end-requires c).In-Run) (integrity_ran (goal.at.read_end-end-requires c).In-Run-denials)
+pub read_end-requires : goal.read_end-requires
+read_end-requires c =
+    let a = c.args in
+    let read = (goal.at.read_end-requires c).In_ok-integrity in
+    integrity_within a.atoms (numbers a.abducibles.now) a.file.now c.requires (rules_ran (rules_read read)) (integrity_ran read)
 
-pub returns-in_default-end : goal.returns-in_default-end
-returns-in_default-end c =
-    end_refused c.args.atoms c.args.abducibles c.args.file.now c.requires (rules_ran (goal.at.returns-in_default-end c).In-Run) (integrity_ran (goal.at.returns-in_default-end c).In-Run-denials)
-    (number_refused _ c.read_end-end.ensures (c.in_default-end.is ∙ c.in-Refused-end.is))
+pub returns-in_err-read_end : goal.returns-in_err-read_end
+returns-in_err-read_end c =
+    let a = c.args in
+    let read = (goal.at.returns-in_err-read_end c).In_ok-integrity in
+    let e = got_refused _ _ (read_end File c.in_ok-integrity.integrity.next a.file.now) c.read_end.ensures c.in_err-read_end.was in
+    handed_on _ _ _ _ _ c.from_residual-in_err-read_end.ensures.1
+    (end_refused a.atoms (numbers a.abducibles.now) a.file.now c.requires (rules_ran (rules_read read)) (integrity_ran read) e)
 
 pub returns : goal.returns
 returns c =
-    rw (c.fields_at.ensures, c.fields_at-2.ensures)
-    (all_accepted c.args.atoms c.args.abducibles c.args.file.now c.requires (rules_ran (goal.at.returns c).In-Run) (integrity_ran (goal.at.returns c).In-Run-denials)
-    (number_accepted _ c.read_end-end.ensures c.in-Number.is))
+    let a = c.args in
+    let read = (goal.at.returns c).In_ok-integrity in
+    let end = got_accepted _ _ (read_end File c.in_ok-integrity.integrity.next a.file.now) c.read_end.ensures c.in_ok-read_end.was in
+    let all = all_accepted a.atoms (numbers a.abducibles.now) a.file.now c.requires (rules_ran (rules_read read)) (integrity_ran read) end.is in
+    ok_told _ _ _ (rw (sym (count_numbers a.abducibles.now)) all)

@@ -1,128 +1,150 @@
 -- `reading::file::read_run` meets its contract.
-use borrow.Author.Tests.{eq-eqb, ne_eqb, eqb-false}
-use native.Mathlib.Decide.{ℕ_discrete}
-use native.Mathlib.Omega.{arith}
-use native.Mathlib.Nat.{sub-zero}
 use mathlib.Core.Path.{◌≡◌, sym, ap, ◌∙◌}
 use mathlib.Core.Bool.{false}
-use mathlib.Core.List.{List}
+use mathlib.Core.List.{List, []}
 use Prim.Native.Nat.{ℕ, suc, ◌<◌, ◌+◌, ◌-◌, ◌*◌}
+use native.Mathlib.Decide.{ℕ_discrete}
+use native.Mathlib.Nat.{sub-zero}
+use native.Mathlib.Omega.{arith}
+use borrow.Author.Tests.{eq-eqb, ne_eqb, eqb-false}
 use lib.Dec.{eqb}
-use lib.ListN.{length, get_or, take, drop}
+use lib.ListN.{length, get_or, drop}
+use Rattle.std.proofs.Common.{rules}
 use Rattle.papers.specs.declared.Paper.TheVariants.{File}
 use Rattle.papers.specs.Outcome.{Outcome, accepted}
 use Rattle.papers.specs.Field.{numbers, fewest, read_field}
-use Rattle.papers.specs.Reading.{Run, read_run}
-use Rattle.papers.specs.Answers.{run_answer}
-use Rattle.papers.proofs.FieldGot.{Got, got_content, got_refused, pairs_length}
-use Rattle.papers.proofs.RunTurn.{run_ended, run_refused, run_fault, run_next}
+use Rattle.papers.specs.Content.{body_fault}
+use Rattle.papers.specs.Reading.{Run, run_from, read_run}
+use Rattle.papers.specs.Answers.{run_of}
+use Rattle.papers.specs.Told.{read_told}
+use Rattle.papers.proofs.FieldGot.{Got, got_content, pairs_length}
+use Rattle.papers.proofs.ReadersGot.{got_refused, ok_told, handed_on, check_passed, check_failed, mapped_passed, mapped_failed}
+use Rattle.papers.proofs.RunTurn.{tag_found, tag_other, run_ended, run_refused, run_fault, run_next}
 use Rattle.reading.proofs.file.read_run.Goals as goal
-use Rattle.reading.proofs.file.read_run.Goals.{After-read_field-got, In-Content}
+use Rattle.reading.proofs.file.read_run.Goals.{After-read_field, In_ok-content, In_ok-map_err}
 
 -- ---- once a field is asked for
 
-module _ (c : After-read_field-got) where
+module _ (c : After-read_field) where
   abbrev file : List ℕ
   file = c.args.file.now
 
-  abbrev place : ℕ
-  place = c.loop-tag.place
+  abbrev next : ℕ
+  next = c.loop-place.run.next
 
   abbrev count : ℕ
-  count = c.loop-tag.count
+  count = c.loop-place.run.count
 
   -- The run from a place on, where so many more may follow.
   abbrev run : ℕ → ℕ → Outcome Run
   run room at = read_run c.args.tag c.args.atoms (numbers c.args.abducibles.now) room at file
 
-  tagged : get_or (drop place file) 0 0 ≡ c.args.tag
-  tagged = sym c.tag_at.ensures ∙ c.if-tag_at-tag.false
+  tagged : get_or (drop next file) 0 0 ≡ c.args.tag
+  tagged = tag_found _ next file (rw c.tag_at.ensures at (sym c.eq.ensures ∙ c.loop-place-test.true))
 
 -- ---- once it is whole
 
-module _ (c : In-Content) where
-  abbrev limit : ℕ
-  limit = c.args.limit
-
-  abbrev from : ℕ
-  from = c.in-Content.start
-
-  abbrev end : ℕ
-  end = c.in-Content.end
+module _ (c : In_ok-content) where
+  abbrev asked : After-read_field
+  asked = (goal.at.In_ok-content c).After-read_field
 
   abbrev content : List ℕ
-  content = take (end - from) (drop from (file (goal.at.In-Content c).After-read_field-got))
+  content = c.in_ok-content.content.now
 
-  field : Got File c.args.tag (eqb (count (goal.at.In-Content c).After-read_field-got) limit) (place (goal.at.In-Content c).After-read_field-got) (file (goal.at.In-Content c).After-read_field-got) from end
-  field = got_content _ _ _ _ _ c.read_field-got.ensures _ _ c.in-Content.is
+  -- How many more may follow it.
+  abbrev room : ℕ
+  room = c.args.limit - (count asked + 1)
+
+  field : Got File c.args.tag (eqb (count asked) c.args.limit) (next asked) (file asked) content
+  field = got_content _ _ _ _ _ c.read_field.ensures c.in_ok-content.was
 
   -- So there was room for it.
-  more : count (goal.at.In-Content c).After-read_field-got < limit
-  more = elim (ℕ_discrete (count (goal.at.In-Content c).After-read_field-got) limit) [ yes e ↦ absurd (eqb-false _ _ field.room e) | no e ↦ omega arith ]
+  more : count asked < c.args.limit
+  more = elim (ℕ_discrete (count asked) c.args.limit) [
+    | yes e ↦ absurd (eqb-false _ _ field.whole.room e)
+    | no e ↦ let few = c.loop-place.invariant.few in omega arith
+  ]
 
-  read : read_field File c.args.tag false (place (goal.at.In-Content c).After-read_field-got) (file (goal.at.In-Content c).After-read_field-got) ≡ accepted content
-  read = rw field.room at field.read
+  read : read_field File c.args.tag false (next asked) (file asked) ≡ accepted content
+  read = rw field.whole.room at field.read
 
   -- The whole run is that from here on, with room for this field and those after it.
-  same_here : run_answer 0 (run (goal.at.In-Content c).After-read_field-got limit c.args.from)
-      ≡ run_answer (count (goal.at.In-Content c).After-read_field-got) (run (goal.at.In-Content c).After-read_field-got (suc (limit - (count (goal.at.In-Content c).After-read_field-got + 1))) (place (goal.at.In-Content c).After-read_field-got))
+  same_here : read_told (run_of 0) (run asked c.args.limit c.args.from) ≡ read_told (run_of (count asked)) (run asked (suc room) (next asked))
   same_here =
-      let room : limit - count (goal.at.In-Content c).After-read_field-got ≡ suc (limit - (count (goal.at.In-Content c).After-read_field-got + 1)) = omega (arith, more) in
-      c.loop-tag.invariant.same ∙ ap (λ (k : ℕ). run_answer (count (goal.at.In-Content c).After-read_field-got) (run (goal.at.In-Content c).After-read_field-got k (place (goal.at.In-Content c).After-read_field-got))) room
+      let left : c.args.limit - count asked ≡ suc room = omega (arith, more) in
+      c.loop-place.invariant.same ∙ ap (λ (k : ℕ). read_told (run_of (count asked)) (run asked k (next asked))) left
 
-pub loop-tag-init : goal.loop-tag-init
-loop-tag-init c = record { within = c.requires.0; few = omega arith; same = rw sub-zero }
+-- ---- once it has passed its test
 
-pub returns-then-tag_at-tag : goal.returns-then-tag_at-tag
-returns-then-tag_at-tag c =
+passed : (c : In_ok-map_err)
+    → body_fault c.args.tag c.args.atoms (numbers c.args.abducibles.now) (numbers c.in_ok-content.content.now) ≡ 0
+passed c = check_passed c.check_body.ensures (mapped_passed _ c.in_ok-map_err.ensures.variant)
+
+pub loop-place-init : goal.loop-place-init
+loop-place-init c = record { within = c.requires.place; few = omega arith; same = rw sub-zero }
+
+pub returns-in_err-content : goal.returns-in_err-content
+returns-in_err-content c =
     let a = c.args in
-    run_ended _ _ _ a.file.now _ c.loop-tag.place _ (λ e. c.if-tag_at-tag.true (c.tag_at.ensures ∙ e)) ∙ sym c.loop-tag.invariant.same
+    let here = (goal.at.returns-in_err-content c).After-read_field in
+    let few = c.loop-place.invariant.few in
+    let full = eqb (count here) a.limit in
+    let e = got_refused _ _ (read_field File a.tag full (next here) (file here)) c.read_field.ensures c.in_err-content.was in
+    handed_on _ _ _ _ _ c.from_residual.ensures.1
+    (run_refused a.tag a.atoms _ (file here) (next here) (tagged here) (a.limit - count here) full (λ z. eq-eqb (count here) a.limit (omega arith))
+    (λ z. ne_eqb (count here) a.limit (λ e. z (omega arith))) e)
+    ∙ sym c.loop-place.invariant.same
 
-pub returns-in_default : goal.returns-in_default
-returns-in_default c =
-    let limit = c.args.limit in
-    let here = c.loop-tag.invariant in
-    run_refused _ _ _ (file (goal.at.returns-in_default c).After-read_field-got) _ (place (goal.at.returns-in_default c).After-read_field-got) (tagged (goal.at.returns-in_default c).After-read_field-got) _ (eqb (count (goal.at.returns-in_default c).After-read_field-got) limit)
-    (λ z. eq-eqb (count (goal.at.returns-in_default c).After-read_field-got) limit (let h = here.few in omega arith)) (λ z. ne_eqb (count (goal.at.returns-in_default c).After-read_field-got) limit (λ e. z (omega arith)))
-    (got_refused File _ _ (place (goal.at.returns-in_default c).After-read_field-got) (file (goal.at.returns-in_default c).After-read_field-got) c.read_field-got.ensures (c.in_default.is ∙ c.in-Refused.is))
-    ∙ sym here.same
-
-pub slice_bounds-body_fault-count : goal.slice_bounds-body_fault-count
-slice_bounds-body_fault-count c = (field (goal.at.slice_bounds-body_fault-count c).In-Content).ordered
-
-pub slice_bounds-body_fault-start : goal.slice_bounds-body_fault-start
-slice_bounds-body_fault-start c = (field (goal.at.slice_bounds-body_fault-start c).In-Content).ordered
-
-pub slice_bounds-body_fault-end : goal.slice_bounds-body_fault-end
-slice_bounds-body_fault-end c = (field (goal.at.slice_bounds-body_fault-end c).In-Content).within
-
-pub body_fault-fault-requires : goal.body_fault-fault-requires
+pub check_body-requires : goal.check_body-requires
 unfolding fewest
-body_fault-fault-requires c = λ e.
-    let f = field (goal.at.body_fault-fault-requires c).In-Content in
-    let p = (pairs_length _ _ c.requires.1.0 f.allowed).least in
-    let q = ap (λ (t : ℕ). 2 * fewest t) e in
-    omega (arith, f.sized)
+check_body-requires c = λ e.
+    let here = (goal.at.check_body-requires c).In_ok-content in
+    let least = (pairs_length _ _ c.requires.tag.1 (field here).whole.allowed).least in
+    let head = ap (λ (t : ℕ). 2 * fewest t) e in
+    omega arith
 
-pub returns-then-fault-ne0 : goal.returns-then-fault-ne0
-returns-then-fault-ne0 c =
-    run_fault _ _ _ (file (goal.at.returns-then-fault-ne0 c).After-read_field-got) _ (place (goal.at.returns-then-fault-ne0 c).After-read_field-got) (tagged (goal.at.returns-then-fault-ne0 c).After-read_field-got) _ _ (read (goal.at.returns-then-fault-ne0 c).In-Content) c.body_fault-fault.ensures c.if-fault-ne0.true
-    ∙ sym (same_here (goal.at.returns-then-fault-ne0 c).In-Content)
+pub returns-in_err-map_err : goal.returns-in_err-map_err
+returns-in_err-map_err c =
+    let a = c.args in
+    let here = (goal.at.returns-in_err-map_err c).In_ok-content in
+    let m = mapped_failed c.check_body.result _ _ c.in_err-map_err.ensures.cases in
+    let at : c.in_err-map_err.field-0.0 ≡ record { fault = m.0; paper = File; place = next (asked here) } = search (rules, m.2) in
+    handed_on _ _ _ _ _ c.from_residual-in_err-map_err.ensures.1
+    (rw at
+    (run_fault a.tag a.atoms _ (file (asked here)) (next (asked here)) (tagged (asked here)) (room here) _ (read here) _
+    (check_failed c.check_body.ensures m.1)))
+    ∙ sym (same_here here)
 
-pub overflow_add-count : goal.overflow_add-count
-overflow_add-count c = omega (arith, more (goal.at.overflow_add-count c).In-Content)
+pub overflow_add-run-in-loop-place-2 : goal.overflow_add-run-in-loop-place-2
+overflow_add-run-in-loop-place-2 c = let w = (field (goal.at.overflow_add-run-in-loop-place-2 c).In_ok-content).whole.within in omega arith
 
-pub loop-tag-smaller : goal.loop-tag-smaller
-loop-tag-smaller c = omega (arith, more (goal.at.loop-tag-smaller c).In-Content)
+pub loop-place-smaller : goal.loop-place-smaller
+loop-place-smaller c = let m = more (goal.at.loop-place-smaller c).In_ok-content in omega arith
 
-pub loop-tag-preserved : goal.loop-tag-preserved
-loop-tag-preserved c =
-    let f = field (goal.at.loop-tag-preserved c).In-Content in
-    let ends : place (goal.at.loop-tag-preserved c).After-read_field-got + 3 + length (content (goal.at.loop-tag-preserved c).In-Content) ≡ end (goal.at.loop-tag-preserved c).In-Content = omega (arith, f.starts, f.sized, f.ordered) in
+pub loop-place-preserved : goal.loop-place-preserved
+loop-place-preserved c =
+    let a = c.args in
+    let here = (goal.at.loop-place-preserved c).In_ok-content in
+    let after = next (asked here) + 3 + length (content here) in
+    let place : after ≡ next (asked here) + (3 + length (content here)) = omega arith in
     record {
-      within = f.within;
-      few = omega (arith, more (goal.at.loop-tag-preserved c).In-Content);
-      same = same_here (goal.at.loop-tag-preserved c).In-Content
-          ∙ run_next _ _ _ (file (goal.at.loop-tag-preserved c).After-read_field-got) _ (place (goal.at.loop-tag-preserved c).After-read_field-got) (tagged (goal.at.loop-tag-preserved c).After-read_field-got) _ _ (read (goal.at.loop-tag-preserved c).In-Content) c.body_fault-fault.ensures c.if-fault-ne0.false
-          ∙ ap (λ (k : ℕ). run_answer (count (goal.at.loop-tag-preserved c).After-read_field-got + 1) (run (goal.at.loop-tag-preserved c).After-read_field-got (limit (goal.at.loop-tag-preserved c).In-Content - (count (goal.at.loop-tag-preserved c).After-read_field-got + 1)) k)) ends;
+      within = omega (arith, (field here).whole.within);
+      few = omega (arith, more here);
+      same = same_here here
+          ∙ run_next a.tag a.atoms _ (file (asked here)) (next (asked here)) (tagged (asked here)) (room here) _ (read here) (count (asked here))
+          (passed (goal.at.loop-place-preserved c).In_ok-map_err)
+          ∙ ap (λ (k : ℕ). read_told (run_of (count (asked here) + 1)) (run (asked here) (room here) k)) place;
     }
+
+pub returns : goal.returns
+returns c =
+    let a = c.args in
+    let run = c.loop-place.run in
+    let other = tag_other _ run.next a.file.now c.requires.tag.0 (rw c.tag_at.ensures at (sym c.eq.ensures ∙ c.loop-place-test.false)) in
+    let counted : run.count + 0 ≡ run.count = omega arith in
+    ok_told _ _ _ (record {
+      value = run_from [] run.next;
+      is = run_ended a.tag a.atoms _ a.file.now run.next (a.limit - run.count) other;
+      tells_it = λ i. record { count = counted i; next = run.next };
+    })
+    ∙ sym c.loop-place.invariant.same

@@ -5,18 +5,19 @@ use Prim.Native.Nat.{ℕ, ◌≤◌, ◌-◌}
 use lib.ListN.{length}
 use Rattle.papers.specs.Field.{numbers}
 use Rattle.papers.specs.Reading.{read_run}
-use Rattle.papers.specs.Answers.{run_answer}
+use Rattle.papers.specs.Answers.{run_of}
+use Rattle.papers.specs.Told.{read_told}
 use Rattle.reading.proofs.file.read_run.Given as goal
 
 -- Where the loop stands: what is read from the start on is what is read from here on, after those counted.
-pub record Reached (file abducibles : List ℕ) (tag atoms limit from place count : ℕ) : Type 0 where
-  pub within : place ≤ length file
+pub record Reached (file abducibles : List ℕ) (tag atoms limit from next count : ℕ) : Type 0 where
+  pub within : next ≤ length file
   pub few : count ≤ limit
-  pub same : run_answer 0 (read_run tag atoms (numbers abducibles) limit from file)
-      ≡ run_answer count (read_run tag atoms (numbers abducibles) (limit - count) place file)
+  pub same : read_told (run_of 0) (read_run tag atoms (numbers abducibles) limit from file)
+      ≡ read_told (run_of count) (read_run tag atoms (numbers abducibles) (limit - count) next file)
 
-abbrev pub invariant-loop-tag : goal.invariant-loop-tag
-invariant-loop-tag l = Reached l.file l.abducibles l.tag l.atoms l.limit l.from l.place l.count
+abbrev pub invariant-loop-place : goal.invariant-loop-place
+invariant-loop-place l = Reached l.file l.abducibles l.tag l.atoms l.limit l.from l.run.next l.run.count
 
-abbrev pub decreases-loop-tag : goal.decreases-loop-tag
-decreases-loop-tag l = l.limit - l.count
+abbrev pub decreases-loop-place : goal.decreases-loop-place
+decreases-loop-place l = l.limit - l.run.count
