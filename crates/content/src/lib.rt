@@ -6,7 +6,6 @@ ghost use Rattle.papers.specs.Field.{number_in, numbers};
 ghost use Rattle.papers.specs.Content.{abducibles_fault, literal_allowed, literals_fault, is_among, rule_fault, body_fault};
 ghost use Rattle.papers.specs.Told.{check_told};
 
-use conjugates::AtomOf;
 use literals::Atom;
 use literals::bodies::is_body_listed;
 use numbered::{atom_at, body_literal_at, literal_at, objective_at};
@@ -70,7 +69,7 @@ fn check_rule(content: &[u8], abducibles: &[u8], atoms: u16) -> Result<(), Fault
     requires { 1 < length content.now }
     ensures { check_told result ≡ rule_fault atoms (numbers abducibles.now) (numbers content.now) }
 {
-    let AtomOf::Is(atom) = conjugates::atom_of(objective_at(content, 0), atoms) else {
+    let Some(atom) = conjugates::atom_of(objective_at(content, 0), atoms) else {
         return Err(Fault::Unlisted);
     };
     if is_among(abducibles, atom) {

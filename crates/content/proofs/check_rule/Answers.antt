@@ -18,8 +18,8 @@ module _ (c : After-is_among) where
   head = c.objective_at.result.0
 
   -- The head is listed, and the atom looked for is its own.
-  owned : (head < 2 * c.args.atoms) × (c.in-Is.atom.0 ≡ head / 2)
-  owned = atom_tells c.args.atoms head (sym c.atom_of.ensures ∙ c.in-Is.is)
+  owned : (head < 2 * c.args.atoms) × (c.in-Some.atom.0 ≡ head / 2)
+  owned = atom_tells c.args.atoms head (sym c.atom_of.ensures ∙ c.in-Some.is)
 
   among : c.is_among.result ≡ is_among (numbers c.args.abducibles.now) (head / 2)
   among = rw (← owned.1) c.is_among.ensures
