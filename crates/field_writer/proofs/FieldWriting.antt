@@ -1,21 +1,16 @@
 -- A field as the loop that writes its numbers meets it.
 -- Assumes nothing.
-use mathlib.Core.Path.{◌≡◌, refl, ap, ◌∙◌}
+use mathlib.Core.Path.{◌≡◌, ap, ◌∙◌}
 use mathlib.Core.List.{List, [], ◌∷◌, ◌++◌}
-use Prim.Native.Nat.{ℕ, zero, suc, ◌+◌, ◌*◌, ◌/◌, ◌%◌, ◌≤◌, ◌<◌}
+use Prim.Native.Nat.{ℕ, ◌+◌, ◌*◌, ◌/◌, ◌%◌, ◌≤◌, ◌<◌}
 use native.Mathlib.Omega.{arith}
 use lib.ListN.{length, get_or, take, set}
 use lib.Seq.{length-take-le}
+use Rattle.std.proofs.lemmas.List.{take_more}
 use Rattle.papers.specs.Encoding.{encode_numbers, encode_field}
 use Rattle.papers.proofs.NumberLaws.{length_encoded}
 use Rattle.dual.specs.Bytes.{filled}
 use Rattle.dual.proofs.FilledLaws.{filled_again, Numbered, numbered_none, numbered_more}
-
-take_more : (l : List ℕ) (i : ℕ) → i < length l → take (i + 1) l ≡ take i l ++ (get_or l i 0 ∷ [])
-take_more [] zero h = absurd (omega arith)
-take_more [] (suc i) h = absurd (omega arith)
-take_more (x ∷ l) zero h = refl
-take_more (x ∷ l) (suc i) h = let e : suc i + 1 ≡ suc (i + 1) = omega arith in rw e (ap (λ (more : List ℕ). x ∷ more) (take_more l i (omega arith)))
 
 -- The first so many numbers are written after the heading's three bytes.
 pub fields_none : (numbers start : List ℕ) → 3 ≤ length start → Numbered 3 start start (take 0 numbers)
@@ -27,7 +22,7 @@ pub fields_more : (numbers start buffer : List ℕ) (i : ℕ) → Numbered 3 sta
 fields_more numbers start buffer i w fits h {v} e =
     let l = length-take-le i numbers (omega arith) in
     let more = numbered_more 3 start buffer (take i numbers) w (omega arith) (3 + 2 * i) v (omega arith) (omega arith) in
-    let last = take_more numbers i h in
+    let last = take_more numbers i 0 h in
     rw (last, ← e) more
 
 pub field_filled : (tag size : ℕ) (numbers entry start buffer : List ℕ) → size ≡ 2 * length numbers → 2 < length entry

@@ -5,15 +5,12 @@ ghost use Rattle.std.specs.Prelude.{◌≡◌, [], ◌∷◌, ◌+◌, ◌*◌, 
 ghost use Rattle.papers.specs.Encoding.{encode_numbers, encode_field};
 ghost use Rattle.dual.specs.Bytes.{filled, Fills};
 
-use arrays::wide;
-
 // A two-byte number at a place, high byte first.
 pub fn put_number(buffer: &mut [u8], at: usize, value: usize)
     requires { (at + 1 < length buffer.old) × (value < 65536) }
     ensures { buffer.new ≡ set (set buffer.old at (value / 256)) (at + 1) (value % 256) }
 {
-    buffer[at] = (value / 256) as u8;
-    buffer[at + 1] = (value % 256) as u8;
+    buffer[at..at + 2].copy_from_slice(&(value as u16).to_be_bytes());
 }
 
 // A field's tag, its length and its first number.
@@ -34,21 +31,17 @@ pub fn write_field(buffer: &mut [u8], tag: u8, numbers: &[u16]) -> usize
     let count = numbers.len();
     buffer[0] = tag;
     put_number(buffer, 1, 2 * count);
-    let mut i: usize = 0;
-    while i < count {
-        let number = wide(numbers[i]);
-        put_number(buffer, 3 + 2 * i, number);
-        i += 1;
+    for (i, &number) in numbers.iter().enumerate() {
+        put_number(buffer, 3 + 2 * i, usize::from(number));
     }
     3 + 2 * count
 }
 
 // 7F.
+#[tactic(auto, unfolding(papers::specs::Encoding::encode_field, dual::specs::Bytes::filled))]
 pub fn write_end(buffer: &mut [u8])
     requires { 2 < length buffer.old }
     ensures { buffer.new ≡ filled (encode_field 0x7F []) buffer.old }
 {
-    buffer[0] = 0x7F;
-    buffer[1] = 0;
-    buffer[2] = 0;
+    buffer[..3].copy_from_slice(&[0x7F, 0, 0]);
 }

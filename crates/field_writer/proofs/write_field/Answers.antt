@@ -23,37 +23,34 @@ put_number-requires c = (simp length-set (omega arith), omega arith)
 
 pub loop-i-init : goal.loop-i-init
 loop-i-init c =
-    (omega arith, (fields_none c.args.numbers.now c.put_number.new.buffer (omega (arith, kept (goal.at.loop-i-init c).After-put_number)), refl))
+    let room = kept (goal.at.loop-i-init c).After-put_number in
+    fields_none c.args.numbers.now c.put_number.new.buffer (omega arith)
 
 pub put_number-requires-in-loop-i : goal.put_number-requires-in-loop-i
 put_number-requires-in-loop-i c =
-    (omega (arith, kept (goal.at.put_number-requires-in-loop-i c).After-put_number, c.loop-i.invariant.1.1), c.wide-number.ensures.1)
+    let room = kept (goal.at.put_number-requires-in-loop-i c).After-put_number in
+    let fits = c.type_inv.numbers c.loop-i.i in
+    (omega (arith, c.loop-i.auto.buffer), omega (arith, c.from.ensures))
 
 pub loop-i-preserved : goal.loop-i-preserved
 loop-i-preserved c =
-    let put = c.put_number-in-loop-i in
-    let at = c.loop-i in (
-      omega arith,
-      (
-        rw put.ensures
-            (fields_more c.args.numbers.now c.put_number.new.buffer at.buffer at.i at.invariant.1.0 (omega (arith, kept (goal.at.loop-i-preserved c).After-put_number))
-            c.loop-i-test.true c.wide-number.ensures.0),
-        put.auto.buffer ∙ at.invariant.1.1,
-      ),
-    )
+    let room = kept (goal.at.loop-i-preserved c).After-put_number in
+    let l = c.loop-i in
+    rw c.put_number-in-loop-i.ensures
+    (fields_more c.args.numbers.now c.put_number.new.buffer l.buffer l.i l.invariant (omega arith) c.loop-i-test.true c.from.ensures)
 
 pub shape_of-buffer : goal.shape_of-buffer
-shape_of-buffer c = c.loop-i.invariant.1.1 ∙ kept (goal.at.shape_of-buffer c).After-put_number
+shape_of-buffer c = c.loop-i.auto.buffer ∙ kept (goal.at.shape_of-buffer c).After-put_number
 
 pub returns : goal.returns
 returns c =
     let a = c.args in
     let ns = a.numbers.now in
-    let at = c.loop-i in
-    let whole : take at.i ns ≡ ns = take_all at.i ns (omega (arith, c.loop-i-test.false)) in
+    let l = c.loop-i in
+    let whole : take l.i ns ≡ ns = take_all l.i ns (omega (arith, c.loop-i-test.false)) in
     let opened = c.put_number.ensures ∙ filled_three a.buffer.now a.tag _ _ (omega arith) in
     let size : length (encode_field a.tag (encode_numbers ns)) ≡ 3 + 2 * length ns =
     length_field a.tag (encode_numbers ns) ∙ ap (λ (k : ℕ). 3 + k) (length_encoded ns) in (
       sym size,
-      field_filled a.tag (2 * length ns) ns a.buffer.now c.put_number.new.buffer at.buffer refl (omega arith) opened (rw whole at at.invariant.1.0),
+      field_filled a.tag (2 * length ns) ns a.buffer.now c.put_number.new.buffer l.buffer refl (omega arith) opened (rw whole at l.invariant),
     )
