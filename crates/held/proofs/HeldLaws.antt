@@ -6,13 +6,13 @@ use mathlib.Core.List.{List}
 use Prim.Native.Nat.{ℕ, zero, suc, ◌^◌, ◌≤◌}
 use native.Mathlib.Omega.{arith}
 use native.Mathlib.Nat.{zero-div}
+use Rattle.std.specs.Prelude.{Ok}
 use Rattle.papers.specs.Tests.{◌and◌, ◌or◌}
 use Rattle.papers.proofs.TestLaws.{true_and}
 use Rattle.lanes.proofs.LaneLaws.{lane_none}
 use Rattle.steps.specs.Explanations.{Problem}
 use Rattle.steps.specs.Continuing.{continue}
 use Rattle.steps.specs.Calls.{Call, Answer, refusal, report, answer}
-use Rattle.held.specs.declared.MasksTested.TheVariants.{Passed}
 use Rattle.held.specs.declared.SearchRecord.{SearchRecord}
 use Rattle.held.specs.Masks.{Masks, masks, masks_tested, keeps, agrees_at, agrees}
 use Rattle.held.specs.HeldProblem.{held_explains, held_rounds, held_problem}
@@ -38,8 +38,8 @@ held_most P m s b h = go (agrees P.abducibles m s)
 
 -- ---- no fault held
 
-none_passed : (k : ℕ) → masks_tested k (masks 0 0) ≡ Passed
-none_passed k = tested_passed k (masks 0 0) (omega arith) (omega arith) refl (zero-div (2 ^ k)) (zero-div (2 ^ k))
+none_passed : (k : ℕ) → masks_tested k (masks 0 0) ≡ Ok tt
+none_passed k = tested_passed k (masks 0 0) (omega arith) refl refl (omega arith) (zero-div (2 ^ k))
 
 pub none_agrees : (k : ℕ) (m : Masks) (s : ℕ) → m.assumed ≡ 0 → m.ruled ≡ 0 → agrees k m s ≡ true
 unfolding agrees agrees_at keeps ◌and◌ ◌or◌
@@ -74,7 +74,7 @@ module _ (P : Problem) (c : Call) (r : SearchRecord) (list : List ℕ) where
   held_made e s = rw (e, s, held_answer)
 
   -- With masks that pass 15 and 16, it is one over the problem with the held faults.
-  pub held_answer_lem : masks_tested P.abducibles r.held ≡ Passed → held_answer P c r list ≡ answer (held_problem P r.held) c r.at list
+  pub held_answer_lem : masks_tested P.abducibles r.held ≡ Ok tt → held_answer P c r list ≡ answer (held_problem P r.held) c r.at list
   unfolding held_answer answer
   held_answer_lem e = ap told (spoilt_passed _ _ r list e)
     where

@@ -1,4 +1,4 @@
--- Tests 15 and 16 as code makes them: `assumed & ruled` is not 0; a mask shifted down by k is not 0.
+-- Tests 15 and 16 as code makes them: `assumed & ruled` is not 0; `assumed | ruled` shifted down by k is not 0.
 -- Assumes nothing.
 use mathlib.Core.Path.{◌≡◌, sym, ap, subst, ◌∙◌}
 use mathlib.Core.Bool.{Bool, false, not}
@@ -8,16 +8,17 @@ use native.Mathlib.Omega.{arith}
 use native.Mathlib.Nat.{div-eq_of_lt, div-le_self}
 use native.Mathlib.Decide.{dec_lt}
 use borrow.Author.Tests.{eq-eqb, ne_eqb}
-use lib.Bits.{bit_and, and_le_l}
+use lib.Bits.{bit_and, bit_or, and_le_l}
 use lib.Dec.{T, T_not, eqb, leb, leb→le, le→leb}
 use lib.Pow.{pow_mono, shr-shr}
+use Rattle.std.specs.Prelude.{Ok, Err}
 use Rattle.papers.specs.Tests.{◌or◌}
-use Rattle.papers.proofs.TestLaws.{both, left, right, either_left, either_right, either, decided, same_tests, is_false, not_equal, differs}
+use Rattle.papers.proofs.TestLaws.{both, left, right, decided, same_tests, is_false, not_equal, differs}
 use Rattle.lanes.specs.Lanes.{lane_bit}
-use Rattle.lanes.proofs.LaneLaws.{lane_and, lane_none, words_same}
+use Rattle.lanes.proofs.LaneLaws.{lane_and, lane_or, lane_none, words_same}
 use Rattle.steps.specs.Explanations.{some_below}
 use Rattle.steps.proofs.Minimality.{some_here, some_where}
-use Rattle.held.specs.declared.MasksTested.TheVariants.{Passed, SharedBit, UnlistedBit}
+use Rattle.held.specs.declared.MaskFault.TheVariants.{SharedBit, UnlistedBit}
 use Rattle.held.specs.Masks.{Masks, shared_at, share, unlisted_at, unlisted, masks_tested}
 
 -- A 16-bit number has no bit from 16 on.
@@ -90,53 +91,38 @@ none_above k x h e t =
       | no s ↦ high_none x (k + j) h (omega arith)
     ]))
 
-unlisted_is : (k : ℕ) (m : Masks) → m.assumed < 65536 → m.ruled < 65536 → unlisted k m ≡ (above k m.assumed or above k m.ruled)
+unlisted_is : (k : ℕ) (m : Masks) (bits : ℕ) → bits ≡ bit_or m.assumed m.ruled → bits < 65536 → unlisted k m ≡ above k bits
 unfolding unlisted unlisted_at
-unlisted_is k m ha hr = same_tests (unlisted k m) (above k m.assumed or above k m.ruled) to from
+unlisted_is k m bits is h = same_tests (unlisted k m) (above k bits) to from
   where
-    to : T (unlisted k m) → T (above k m.assumed or above k m.ruled)
+    either_is : (i : ℕ) → lane_bit i bits ≡ (lane_bit i m.assumed or lane_bit i m.ruled)
+    either_is i = ap (lane_bit i) is ∙ lane_or i m.assumed m.ruled
+
+    to : T (unlisted k m) → T (above k bits)
     to t =
         let w = some_where 16 (unlisted_at k m) t in
         let i = w.0 in
-        let h = leb→le k i (left (leb k i) _ w.2) in
-        elim (either (lane_bit i m.assumed) (lane_bit i m.ruled) (right (leb k i) _ w.2)) [
-          | inl x ↦ either_left (above k m.assumed) (above k m.ruled) (bit_above k i m.assumed h x)
-          | inr x ↦ either_right (above k m.assumed) (above k m.ruled) (bit_above k i m.ruled h x)
-        ]
+        bit_above k i bits (leb→le k i (left (leb k i) _ w.2)) (subst T (sym (either_is i)) (right (leb k i) _ w.2))
 
-    bits : T (not (unlisted k m)) → (i : ℕ) → k ≤ i → i < 16 → T (lane_bit i m.assumed or lane_bit i m.ruled) → ⊥
-    bits n i h g t = T_not (unlisted k m) n (some_here 16 (unlisted_at k m) i g (both (leb k i) _ (le→leb k i h) t))
-
-    from : T (above k m.assumed or above k m.ruled) → T (unlisted k m)
+    from : T (above k bits) → T (unlisted k m)
     from t = elim (decided (unlisted k m)) [
       | inl y ↦ y
-      | inr n ↦ elim (either (above k m.assumed) (above k m.ruled) t) [
-        | inl x ↦ absurd (none_above k m.assumed ha (λ i h g y. bits n i h g (either_left (lane_bit i m.assumed) (lane_bit i m.ruled) y)) x)
-        | inr x ↦ absurd (none_above k m.ruled hr (λ i h g y. bits n i h g (either_right (lane_bit i m.assumed) (lane_bit i m.ruled) y)) x)
-      ]
+      | inr n ↦ absurd (none_above k bits h (λ i g l y. T_not (unlisted k m) n (some_here 16 (unlisted_at k m) i l (both (leb k i) _ (le→leb k i g) (subst T (either_is i) y)))) t)
     ]
 
 -- ---- by the first test that fails
 
-module _ (k : ℕ) (m : Masks) (ha : m.assumed < 65536) (hr : m.ruled < 65536) where
-  pub tested_shared : (bit_and m.assumed m.ruled ≡ 0 → ⊥) → masks_tested k m ≡ SharedBit
+module _ (k : ℕ) (m : Masks) (ha : m.assumed < 65536) where
+  pub tested_shared : (bit_and m.assumed m.ruled ≡ 0 → ⊥) → masks_tested k m ≡ Err SharedBit
   unfolding masks_tested
   tested_shared n = rw (share_is m ha, ne_eqb (bit_and m.assumed m.ruled) 0 n)
 
-  module _ (apart : bit_and m.assumed m.ruled ≡ 0) where
-    pub tested_assumed : (m.assumed / 2 ^ k ≡ 0 → ⊥) → masks_tested k m ≡ UnlistedBit
-    unfolding masks_tested above ◌or◌
-    tested_assumed n = rw (share_is m ha, eq-eqb (bit_and m.assumed m.ruled) 0 apart, unlisted_is k m ha hr, ne_eqb (m.assumed / 2 ^ k) 0 n)
+  module _ (apart : bit_and m.assumed m.ruled ≡ 0) {bits : ℕ} (is : bits ≡ bit_or m.assumed m.ruled) (h : bits < 65536) where
+    pub tested_unlisted : (bits / 2 ^ k ≡ 0 → ⊥) → masks_tested k m ≡ Err UnlistedBit
+    unfolding masks_tested above
+    tested_unlisted n =
+        rw (share_is m ha, eq-eqb (bit_and m.assumed m.ruled) 0 apart, unlisted_is k m bits is h, ne_eqb (bits / 2 ^ k) 0 n)
 
-    module _ (within : m.assumed / 2 ^ k ≡ 0) where
-      pub tested_ruled : (m.ruled / 2 ^ k ≡ 0 → ⊥) → masks_tested k m ≡ UnlistedBit
-      unfolding masks_tested above ◌or◌
-      tested_ruled n =
-          let e = eq-eqb (m.assumed / 2 ^ k) 0 within in
-          rw (share_is m ha, eq-eqb (bit_and m.assumed m.ruled) 0 apart, unlisted_is k m ha hr, e, ne_eqb (m.ruled / 2 ^ k) 0 n)
-
-      pub tested_passed : m.ruled / 2 ^ k ≡ 0 → masks_tested k m ≡ Passed
-      unfolding masks_tested above ◌or◌
-      tested_passed f =
-          let e = eq-eqb (m.assumed / 2 ^ k) 0 within in
-          rw (share_is m ha, eq-eqb (bit_and m.assumed m.ruled) 0 apart, unlisted_is k m ha hr, e, eq-eqb (m.ruled / 2 ^ k) 0 f)
+    pub tested_passed : bits / 2 ^ k ≡ 0 → masks_tested k m ≡ Ok tt
+    unfolding masks_tested above
+    tested_passed f = rw (share_is m ha, eq-eqb (bit_and m.assumed m.ruled) 0 apart, unlisted_is k m bits is h, eq-eqb (bits / 2 ^ k) 0 f)

@@ -1,12 +1,11 @@
 -- A call on a record that carries the masks. P is the problem of the file and the sheet.
-use Rattle.std.specs.Prelude.{Bool, true, false, List, ℕ}
+use Rattle.std.specs.Prelude.{Bool, true, false, Result, Ok, Err, List, ℕ}
 use Rattle.papers.specs.Tests.{◌or◌}
 use Rattle.steps.specs.Explanations.{Problem, scenarios}
 use Rattle.steps.specs.Continuing.{fresh, continue}
 use Rattle.steps.specs.Spoilt.{spoilt_by}
 use Rattle.steps.specs.Calls.{Call, Answer, refusal, report}
-use Rattle.held.specs.declared.MasksTested.{MasksTested}
-use Rattle.held.specs.declared.MasksTested.TheVariants.{Passed, SharedBit, UnlistedBit}
+use Rattle.held.specs.declared.MaskFault.{MaskFault}
 use Rattle.held.specs.Masks.{Masks, masks_tested}
 use Rattle.held.specs.HeldProblem.{held_problem}
 -- "The search record carries both" masks, beside its position and its found.
@@ -17,10 +16,9 @@ abbrev pub fresh_search : Masks → SearchRecord
 fresh_search m = record { at = fresh; held = m }
 
 -- 15 or 16 would refuse the masks.
-unfoldable pub unfit : MasksTested → Bool
-unfit Passed = false
-unfit SharedBit = true
-unfit UnlistedBit = true
+unfoldable pub unfit : Result (Unit {0}) MaskFault → Bool
+unfit (Ok _) = false
+unfit (Err fault) = true
 
 -- 14, with the clauses of document 01: "test 14 also fails a record whose masks 15 or 16 would refuse". There are `total` scenarios of k
 -- abducibles.

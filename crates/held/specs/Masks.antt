@@ -1,10 +1,10 @@
 -- "Two 16-bit masks, faults held as assumed (digit 1) and held as ruled out (digit 2), bit i for the i-th abducible."
-use Rattle.std.specs.Prelude.{Bool, true, not, cond, ℕ, zero, suc, ◌/◌, ◌%◌, ◌^◌, eqb, leb}
+use Rattle.std.specs.Prelude.{Bool, true, not, cond, Result, Ok, Err, ℕ, zero, suc, ◌/◌, ◌%◌, ◌^◌, eqb, leb}
 use Rattle.papers.specs.Tests.{◌and◌, ◌or◌}
 use Rattle.lanes.specs.Lanes.{lane_bit}
 use Rattle.steps.specs.Explanations.{some_below}
-use Rattle.held.specs.declared.MasksTested.{MasksTested}
-use Rattle.held.specs.declared.MasksTested.TheVariants.{Passed, SharedBit, UnlistedBit}
+use Rattle.held.specs.declared.MaskFault.{MaskFault}
+use Rattle.held.specs.declared.MaskFault.TheVariants.{SharedBit, UnlistedBit}
 -- Both masks, as the code declares them. Bit i of one is `lane_bit i`.
 pub use Rattle.held.specs.declared.Masks.{Masks}
 
@@ -28,8 +28,8 @@ unfoldable pub unlisted : ℕ → Masks → Bool
 unlisted k m = some_below 16 (unlisted_at k m)
 
 -- "15 when the masks share a bit, then 16 when a bit at or above k is set."
-unfoldable pub masks_tested : ℕ → Masks → MasksTested
-masks_tested k m = cond (share m) SharedBit (cond (unlisted k m) UnlistedBit Passed)
+unfoldable pub masks_tested : ℕ → Masks → Result (Unit {0}) MaskFault
+masks_tested k m = cond (share m) (Err SharedBit) (cond (unlisted k m) (Err UnlistedBit) (Ok tt))
 
 -- ---- agreeing
 

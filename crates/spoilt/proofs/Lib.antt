@@ -1,2 +1,2 @@
--- The loops of test 14, and test 14 by the first of its four that fails.
+-- Test 14 by the calls that code makes, and by the first of its four that fails.
 mod SpoiltLaws

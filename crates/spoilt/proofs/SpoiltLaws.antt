@@ -1,48 +1,55 @@
--- For the loops of test 14, and test 14 by the first of its four that fails.
+-- Test 14 by the calls that code makes, and by the first of its four that fails.
 -- Assumes nothing.
-use mathlib.Core.Path.{◌≡◌, refl}
+use mathlib.Core.Path.{◌≡◌, refl, sym}
 use mathlib.Core.Bool.{Bool, true, false, not}
-use mathlib.Core.List.{List}
-use Prim.Native.Nat.{ℕ, ◌+◌, ◌<◌, ◌≤◌}
-use borrow.Author.Tests.{lt-ltb, le-ltb, le-leb, lt-leb}
-use lib.Dec.{ltb}
-use lib.ListN.{length, get_or, take, drop}
+use mathlib.Core.List.{List, [], ◌∷◌}
+use Prim.Native.Nat.{ℕ, zero, suc, ◌+◌, ◌<◌, ◌≤◌}
+use native.Mathlib.Omega.{arith}
+use native.Mathlib.Numerals.{add-one}
+use borrow.Author.Tests.{lt-ltb, le-ltb, le-leb, lt-leb, ltb-true, ltb-false}
+use lib.Dec.{ltb, leb}
+use lib.ListN.{length, get_or, take}
+use Rattle.std.specs.List.{IsAllAdjacentAnswer, list_all}
 use Rattle.papers.specs.Tests.{◌and◌, ◌or◌}
-use Rattle.papers.proofs.TestLaws.{or_true}
+use Rattle.papers.proofs.TestLaws.{or_true, false_and}
 use Rattle.steps.specs.declared.Record.{Record}
 use Rattle.steps.specs.Spoilt.{rising, all_below, spoilt_by}
-use Rattle.steps.proofs.Entries.{entries_next, entries_end}
 
--- ---- the first n entries, from index i on
+-- ---- the entries
 
-module _ (n : ℕ) (l : List ℕ) (i : ℕ) (held : n ≤ length l) where
-  -- Whether they rise strictly.
-  module _ (least : ℕ) where
-    pub rising_next : i < n → least ≤ get_or l i 0 → rising least (drop i (take n l)) ≡ rising (get_or l i 0 + 1) (drop (i + 1) (take n l))
-    unfolding rising ◌and◌
-    rising_next h e = rw (entries_next n l i held h, le-leb least (get_or l i 0) e)
+rising_holds : (xs : List ℕ) (least : ℕ) → (0 < length xs → least ≤ get_or xs 0 0)
+    → ((k : ℕ) → suc k < length xs → get_or xs k 0 < get_or xs (suc k) 0) → rising least xs ≡ true
+unfolding rising ◌and◌
+rising_holds [] least h each = refl
+rising_holds (x ∷ xs) least h each =
+    let rest = rising_holds xs (x + 1) (λ l. omega (arith, each 0 (omega arith))) (λ k l. each (suc k) (omega arith)) in
+    rw (le-leb least x (h (omega arith)), rest)
 
-    pub rising_not : i < n → get_or l i 0 < least → rising least (drop i (take n l)) ≡ false
-    unfolding rising ◌and◌
-    rising_not h e = rw (entries_next n l i held h, lt-leb least (get_or l i 0) e)
+second_fails : (a b : Bool) → b ≡ false → (a and b) ≡ false
+unfolding ◌and◌
+second_fails true b e = e
+second_fails false b e = refl
 
-    pub rising_end : n ≤ i → rising least (drop i (take n l)) ≡ true
-    unfolding rising
-    rising_end h = rw (entries_end n l i held h)
+rising_fails : (xs : List ℕ) (least k : ℕ) → suc k < length xs → get_or xs (suc k) 0 ≤ get_or xs k 0 → rising least xs ≡ false
+unfolding rising
+rising_fails [] least k h e = absurd (omega arith)
+rising_fails (x ∷ []) least k h e = absurd (omega arith)
+rising_fails (x ∷ y ∷ xs) least zero h e =
+    let f : leb (x + 1) y ≡ false = lt-leb (x + 1) y (omega arith) in
+    second_fails (leb least x) _ (rw f (false_and _))
+rising_fails (x ∷ y ∷ xs) least (suc k) h e =
+    second_fails (leb least x) _ (rising_fails (y ∷ xs) (x + 1) k (omega arith) e)
 
-  -- Whether all are below a position.
-  module _ (position : ℕ) where
-    pub below_next : i < n → get_or l i 0 < position → all_below position (drop i (take n l)) ≡ all_below position (drop (i + 1) (take n l))
-    unfolding all_below ◌and◌
-    below_next h e = rw (entries_next n l i held h, lt-ltb (get_or l i 0) position e)
+-- What the library answers of each entry and the next.
+pub rising_answer : (xs : List ℕ) (r : Bool) → IsAllAdjacentAnswer (λ x y b. b ≡ ltb x y) xs r → r ≡ rising 0 xs
+rising_answer xs true h = sym (rising_holds xs 0 (λ l. omega arith) (λ k l. rw add-one at (ltb-true _ _ (sym (h k 0 (omega arith))))))
+rising_answer xs false h = sym (rising_fails xs 0 h.0 (omega arith) (rw add-one at (ltb-false _ _ (sym (h.2 0)))))
 
-    pub below_not : i < n → position ≤ get_or l i 0 → all_below position (drop i (take n l)) ≡ false
-    unfolding all_below ◌and◌
-    below_not h e = rw (entries_next n l i held h, le-ltb (get_or l i 0) position e)
-
-    pub below_end : n ≤ i → all_below position (drop i (take n l)) ≡ true
-    unfolding all_below
-    below_end h = rw (entries_end n l i held h)
+-- What it answers of each entry and a position.
+pub below_answer : (position : ℕ) (xs : List ℕ) → list_all (λ x. ltb x position) xs ≡ all_below position xs
+unfolding all_below ◌and◌
+below_answer position [] = refl
+below_answer position (x ∷ xs) = rw (below_answer position xs)
 
 -- ---- test 14, by the first of its four that fails
 

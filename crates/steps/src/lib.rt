@@ -3,13 +3,13 @@
 #![tactic(auto)]
 
 // A search: its next scenario, and how many of the list's entries are found ones.
-#[derive(Clone, Copy)]
+#[derive(Clone, Copy, PartialEq, Eq, Debug)]
 pub struct Record {
     pub position: u32,
     pub found: u32,
 }
 
-#[derive(Clone, Copy)]
+#[derive(Clone, Copy, PartialEq, Eq, Debug)]
 pub enum State {
     Ended,
     Full,
