@@ -12,6 +12,7 @@ use lib.Bits.{bit_and, bit_or, and_le_l}
 use lib.Dec.{T, T_not, eqb, leb, leb→le, le→leb}
 use lib.Pow.{pow_mono, shr-shr}
 use Rattle.std.specs.Prelude.{Ok, Err}
+use Rattle.std.proofs.lemmas.Nat.{or_of_16}
 use Rattle.papers.specs.Tests.{◌or◌}
 use Rattle.papers.proofs.TestLaws.{both, left, right, decided, same_tests, is_false, not_equal, differs}
 use Rattle.lanes.specs.Lanes.{lane_bit}
@@ -91,10 +92,14 @@ none_above k x h e t =
       | no s ↦ high_none x (k + j) h (omega arith)
     ]))
 
-unlisted_is : (k : ℕ) (m : Masks) (bits : ℕ) → bits ≡ bit_or m.assumed m.ruled → bits < 65536 → unlisted k m ≡ above k bits
+unlisted_is : (k : ℕ) (m : Masks) (bits : ℕ) → bits ≡ bit_or m.assumed m.ruled → m.assumed < 65536 → m.ruled < 65536
+    → unlisted k m ≡ above k bits
 unfolding unlisted unlisted_at
-unlisted_is k m bits is h = same_tests (unlisted k m) (above k bits) to from
+unlisted_is k m bits is ha hr = same_tests (unlisted k m) (above k bits) to from
   where
+    few : bits < 65536
+    few = rw is (or_of_16 m.assumed m.ruled ha hr)
+
     either_is : (i : ℕ) → lane_bit i bits ≡ (lane_bit i m.assumed or lane_bit i m.ruled)
     either_is i = ap (lane_bit i) is ∙ lane_or i m.assumed m.ruled
 
@@ -104,10 +109,14 @@ unlisted_is k m bits is h = same_tests (unlisted k m) (above k bits) to from
         let i = w.0 in
         bit_above k i bits (leb→le k i (left (leb k i) _ w.2)) (subst T (sym (either_is i)) (right (leb k i) _ w.2))
 
+    listed : T (not (unlisted k m)) → (i : ℕ) → k ≤ i → i < 16 → T (lane_bit i bits) → ⊥
+    listed n i h l t =
+        T_not (unlisted k m) n (some_here 16 (unlisted_at k m) i l (both (leb k i) _ (le→leb k i h) (subst T (either_is i) t)))
+
     from : T (above k bits) → T (unlisted k m)
     from t = elim (decided (unlisted k m)) [
       | inl y ↦ y
-      | inr n ↦ absurd (none_above k bits h (λ i g l y. T_not (unlisted k m) n (some_here 16 (unlisted_at k m) i l (both (leb k i) _ (le→leb k i g) (subst T (either_is i) y)))) t)
+      | inr n ↦ absurd (none_above k bits few (listed n) t)
     ]
 
 -- ---- by the first test that fails
@@ -117,12 +126,12 @@ module _ (k : ℕ) (m : Masks) (ha : m.assumed < 65536) where
   unfolding masks_tested
   tested_shared n = rw (share_is m ha, ne_eqb (bit_and m.assumed m.ruled) 0 n)
 
-  module _ (apart : bit_and m.assumed m.ruled ≡ 0) {bits : ℕ} (is : bits ≡ bit_or m.assumed m.ruled) (h : bits < 65536) where
+  module _ (apart : bit_and m.assumed m.ruled ≡ 0) {bits : ℕ} (is : bits ≡ bit_or m.assumed m.ruled) (hr : m.ruled < 65536) where
     pub tested_unlisted : (bits / 2 ^ k ≡ 0 → ⊥) → masks_tested k m ≡ Err UnlistedBit
     unfolding masks_tested above
     tested_unlisted n =
-        rw (share_is m ha, eq-eqb (bit_and m.assumed m.ruled) 0 apart, unlisted_is k m bits is h, ne_eqb (bits / 2 ^ k) 0 n)
+        rw (share_is m ha, eq-eqb (bit_and m.assumed m.ruled) 0 apart, unlisted_is k m bits is ha hr, ne_eqb (bits / 2 ^ k) 0 n)
 
     pub tested_passed : bits / 2 ^ k ≡ 0 → masks_tested k m ≡ Ok tt
     unfolding masks_tested above
-    tested_passed f = rw (share_is m ha, eq-eqb (bit_and m.assumed m.ruled) 0 apart, unlisted_is k m bits is h, eq-eqb (bits / 2 ^ k) 0 f)
+    tested_passed f = rw (share_is m ha, eq-eqb (bit_and m.assumed m.ruled) 0 apart, unlisted_is k m bits is ha hr, eq-eqb (bits / 2 ^ k) 0 f)
