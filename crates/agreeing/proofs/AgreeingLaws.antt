@@ -5,10 +5,11 @@ use mathlib.Core.Bool.{Bool, true, false, cond}
 use mathlib.Core.List.{List}
 use Prim.Native.Nat.{ℕ, ◌+◌, ◌/◌, ◌%◌, ◌^◌, ◌<◌, ◌≤◌}
 use native.Mathlib.Numerals.{add-one}
+use native.Mathlib.Decide.{ℕ_discrete}
 use native.Mathlib.Omega.{arith}
 use lib.Bits.{bit_and}
 use lib.Dec.{eqb, eqb→eq}
-use lib.ListN.{length, get_or, set, replicate, length-set, length-replicate}
+use lib.ListN.{length, get_or, set, replicate, length-set, length-replicate, get_or-replicate}
 use Rattle.papers.specs.Tests.{◌and◌, ◌or◌}
 use Rattle.papers.proofs.TestLaws.{left, right, passes, and_true, and_assoc}
 use Rattle.lanes.specs.Lanes.{lane_bit, Written}
@@ -91,12 +92,30 @@ pub record RoundsBelow (l word : ℕ) (rounds after : List ℕ) : Type 0 where
 pub rounds_none : (word : ℕ) (rounds : List ℕ) → RoundsBelow 0 word rounds (replicate 64 0)
 rounds_none word rounds = record { size = length-replicate {A = ℕ} 64 0; done = written_none (rounds_in word rounds) (replicate 64 0) }
 
-pub rounds_next : {l word own : ℕ} {rounds after : List ℕ} → RoundsBelow l word rounds after → l < 64
-    → own ≡ cond (lane_bit l word) (get_or rounds l 0) 0 → RoundsBelow (l + 1) word rounds (set after l own)
-unfolding rounds_in
+rounds_next : {l word own : ℕ} {rounds after : List ℕ} → RoundsBelow l word rounds after → l < 64 → own ≡ rounds_in word rounds l
+    → RoundsBelow (l + 1) word rounds (set after l own)
 rounds_next {l} {word} {own} {rounds} {after} b h e = record {
   size = length-set after l own ∙ b.size;
   done = rw e (written_more (rounds_in word rounds) l (replicate 64 0) after (omega (arith, b.size)) b.done);
+}
+
+pub rounds_kept : {l word : ℕ} {rounds after : List ℕ} → RoundsBelow l word rounds after → l < 64 → lane_bit l word ≡ true
+    → RoundsBelow (l + 1) word rounds (set after l (get_or rounds l 0))
+unfolding rounds_in
+rounds_kept b h e = rounds_next b h (rw e)
+
+pub rounds_left : {l word : ℕ} {rounds after : List ℕ} → RoundsBelow l word rounds after → l < 64 → lane_bit l word ≡ false
+    → RoundsBelow (l + 1) word rounds after
+unfolding rounds_in
+rounds_left {l} {word} {rounds} {after} b h e = record {
+  size = b.size;
+  done = record {
+    at = λ o g. elim (ℕ_discrete o l) [
+      | yes q ↦ rw (q, e) (b.done.beyond.at l (omega arith) ∙ get_or-replicate 64 l 0 0 h)
+      | no n ↦ b.done.at o (omega arith)
+    ];
+    beyond = record { at = λ o g. b.done.beyond.at o (omega arith) };
+  };
 }
 
 pub rounds_all : {l word : ℕ} {rounds after : List ℕ} → RoundsBelow l word rounds after → 64 ≤ l → AgreeingRounds word rounds after

@@ -46,8 +46,8 @@ module _ (P : Problem) (m : Masks) (k base : ℕ) where
   }
 
   -- Where all agree, as they are.
-  pub all_lanes : {explained word : ℕ} {rounds : List ℕ} → InLanes P k base explained rounds → AgreeingLanes k m base word → word ≡ 18446744073709551615
-      → InLanes (held_problem P m) k base explained rounds
+  pub all_lanes : {explained word : ℕ} {rounds : List ℕ} → InLanes P k base explained rounds → AgreeingLanes k m base word
+      → word ≡ 18446744073709551615 → InLanes (held_problem P m) k base explained rounds
   unfolding held_explains held_rounds
   all_lanes {explained} {word} judged agreeing full = record {
     abducibles = judged.abducibles;

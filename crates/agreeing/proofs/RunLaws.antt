@@ -1,13 +1,16 @@
 -- Runs of scenarios that do not agree, fault by fault.
 -- Assumes nothing.
 use mathlib.Core.Path.{◌≡◌, refl, sym, ap, ap₂, subst, ◌∙◌}
-use mathlib.Core.Bool.{Bool, true, false, not, cond, true≢false}
+use mathlib.Core.Bool.{Bool, true, false, not, cond}
 use Prim.Native.Nat.{ℕ, ◌+◌, ◌-◌, ◌*◌, ◌/◌, ◌%◌, ◌^◌, ◌<◌}
 use native.Mathlib.Nat.{mod-lt, div-add-mod'}
 use native.Mathlib.Numerals.{add-one}
 use native.Mathlib.Omega.{arith}
 use lib.Arith.{digits_div}
-use Rattle.papers.specs.Tests.{◌and◌}
+use mathlib.Core.Logic.{◌⊎◌, inl, inr}
+use borrow.Author.Tests.{eq-eqb}
+use Rattle.papers.specs.Tests.{◌and◌, ◌or◌}
+use Rattle.papers.proofs.TestLaws.{or_true}
 use Rattle.lanes.specs.Lanes.{lane_bit}
 use Rattle.held.specs.declared.Masks.{Masks}
 use Rattle.held.specs.Masks.{keeps, agrees_at, agrees}
@@ -15,22 +18,11 @@ use Rattle.held.proofs.AgreesLaws.{agrees_fails}
 
 -- ---- one fault
 
--- Another digit than that of the first mask, or of the second.
-pub first_other : (a b : Bool) → not a ≡ true → true ≡ not (a and b)
-unfolding ◌and◌
-first_other a b e = go a e
-  where
-    go : (x : Bool) → not x ≡ true → true ≡ not (x and b)
-    go false h = refl
-    go true h = absurd (true≢false (sym h))
-
-pub second_other : (a b : Bool) {test : Bool} → not a ≡ false → test ≡ not b → test ≡ not (a and b)
-unfolding ◌and◌
-second_other a b {test} e t = go a e
-  where
-    go : (x : Bool) → not x ≡ false → test ≡ not (x and b)
-    go true h = t
-    go false h = absurd (true≢false h)
+-- A fault that is held and has the digit, or is not held.
+pub kept_digit : (held : Bool) (digit own : ℕ) → ((held ≡ true) × (own ≡ digit)) ⊎ (held ≡ false) → keeps held digit own ≡ true
+unfolding keeps ◌or◌
+kept_digit held digit own (inl e) = rw (eq-eqb own digit e.1) (or_true (not held))
+kept_digit held digit own (inr e) = rw e
 
 -- ---- runs
 

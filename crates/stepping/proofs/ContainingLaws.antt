@@ -2,16 +2,17 @@
 -- Assumes nothing.
 use mathlib.Core.Path.{◌≡◌, refl, sym, ap, ◌∙◌}
 use mathlib.Core.Bool.{Bool, true, false, not}
-use mathlib.Core.List.{List}
-use Prim.Native.Nat.{ℕ, zero, suc, ◌+◌, ◌-◌, ◌*◌, ◌/◌, ◌%◌, ◌^◌, ◌<◌, ◌≤◌}
+use mathlib.Core.List.{List, [], ◌∷◌}
+use Prim.Native.Nat.{ℕ, zero, suc, ◌+◌, ◌-◌, ◌/◌, ◌%◌, ◌^◌, ◌<◌, ◌≤◌}
 use native.Mathlib.Decide.{ℕ_discrete}
 use native.Mathlib.Nat.{div-one, div-div-eq-div-mul}
 use native.Mathlib.Omega.{arith}
+use native.Mathlib.Numerals.{add-one}
 use borrow.Author.Tests.{eq-eqb, ne_eqb}
 use lib.Bits.{bit_and}
 use lib.Dec.{eqb}
-use lib.ListN.{length, get_or, take, drop, set, replicate, length-set, length-replicate, get_or-replicate}
-use lib.Seq.{get_or-set_same, get_or-set_other}
+use lib.ListN.{length, get_or, drop, drop_of_length-le, set, replicate, length-set, length-replicate}
+use lib.Seq.{get_or-set_same, get_or-set_other, drop-cons, take-length}
 use Rattle.digits.proofs.Powers.{power_next}
 use Rattle.papers.specs.Tests.{◌and◌, ◌or◌}
 use Rattle.papers.proofs.TestLaws.{and_true, and_assoc, false_and}
@@ -20,8 +21,7 @@ use Rattle.lanes.proofs.LaneLaws.{lane_and, lane_not, lane_full, lane_none}
 use Rattle.digits.specs.Digits.{DigitLanes}
 use Rattle.steps.specs.Explanations.{part_digit, part_of}
 use Rattle.steps.specs.Continuing.{contains_one}
-use Rattle.stepping.specs.Containing.{DigitTable, EntryLanes, LanesLeft, NewToFirst}
-use Rattle.steps.proofs.Entries.{entries_next, entries_end}
+use Rattle.stepping.specs.Containing.{DigitTable, EntryLanes, Without, LanesLeft, NewToFirst}
 use Rattle.stepping.proofs.PartLoops.{part_done}
 
 -- ---- the table
@@ -39,61 +39,42 @@ other_digit d e z = elim (ℕ_discrete e d) [
   | no q ↦ rw (ne_eqb d 0 z, ne_eqb d e (λ r. q (sym r)), ne_eqb e d q)
 ]
 
--- The first i digits have their words, and all lanes are set in the others.
-pub record Tabled (i base : ℕ) (table : List ℕ) : Type 0 where
-  pub size : length table ≡ 48
+-- The first i digits have their words.
+pub record Tabled (i base : ℕ) (table : List (List ℕ)) : Type 0 where
+  pub size : length table ≡ 16
   pub done : DigitTable i base table
-  pub rest : (o : ℕ) → 3 * i ≤ o → o < 48 → get_or table o 0 ≡ 18446744073709551615
 
-pub tabled_none : (base : ℕ) → Tabled 0 base (replicate 48 18446744073709551615)
-tabled_none base = record {
-  size = length-replicate {A = ℕ} 48 18446744073709551615;
+pub tabled_none : (base : ℕ) (row : List ℕ) → Tabled 0 base (replicate 16 row)
+tabled_none base row = record {
+  size = length-replicate {A = List ℕ} 16 row;
   done = record { at = λ i d l h. absurd (omega arith) };
-  rest = λ o h k. get_or-replicate 48 o 18446744073709551615 0 k;
 }
 
-module _ (i base : ℕ) (table : List ℕ) (few : i < 16) (so_far : Tabled i base table) {power : ℕ} (raised : power ≡ 3 ^ i) (assumed ruled : ℕ)
+module _ (i base : ℕ) (table : List (List ℕ)) (few : i < 16) (so_far : Tabled i base table) {power : ℕ} (raised : power ≡ 3 ^ i) (assumed ruled : ℕ)
     (one : DigitLanes base power 1 assumed) (two : DigitLanes base power 2 ruled) where
-  abbrev with_one : List ℕ
-  with_one = set table (3 * i + 1) assumed
+  abbrev row : List ℕ
+  row = 18446744073709551615 ∷ assumed ∷ ruled ∷ []
 
-  abbrev with_both : List ℕ
-  with_both = set with_one (3 * i + 2) ruled
-
-  elsewhere : (o : ℕ) → (o ≡ 3 * i + 1 → ⊥) → (o ≡ 3 * i + 2 → ⊥) → get_or with_both o 0 ≡ get_or table o 0
-  elsewhere o a b = get_or-set_other with_one (3 * i + 2) o ruled 0 b ∙ get_or-set_other table (3 * i + 1) o assumed 0 a
-
-  here : (d l : ℕ) → d < 3 → l < 64 → lane_bit l (get_or with_both (3 * i + d) 0) ≡ part_digit d ((base + l) / 3 ^ i % 3)
-  here zero l h k =
-      ap (lane_bit l) (elsewhere (3 * i + 0) (λ e. omega arith) (λ e. omega arith) ∙ so_far.rest (3 * i + 0) (omega arith) (omega arith))
-      ∙ lane_full l k
-      ∙ sym (zero_digit ((base + l) / 3 ^ i % 3))
+  here : (d l : ℕ) → d < 3 → l < 64 → lane_bit l (get_or row d 0) ≡ part_digit d ((base + l) / 3 ^ i % 3)
+  here zero l h k = lane_full l k ∙ sym (zero_digit ((base + l) / 3 ^ i % 3))
   here (suc zero) l h k =
-      let size = so_far.size in
-      ap (lane_bit l)
-      (get_or-set_other with_one (3 * i + 2) (3 * i + 1) ruled 0 (λ e. omega arith) ∙ get_or-set_same table (3 * i + 1) assumed 0 (omega arith))
-      ∙ one.at l k
-      ∙ ap (λ (n : ℕ). eqb ((base + l) / n % 3) 1) raised
-      ∙ sym (other_digit 1 ((base + l) / 3 ^ i % 3) (λ e. omega arith))
+      one.at l k ∙ ap (λ (n : ℕ). eqb ((base + l) / n % 3) 1) raised ∙ sym (other_digit 1 ((base + l) / 3 ^ i % 3) (λ e. omega arith))
   here (suc (suc zero)) l h k =
-      let size = so_far.size in
-      let kept = length-set table (3 * i + 1) assumed in
-      ap (lane_bit l) (get_or-set_same with_one (3 * i + 2) ruled 0 (omega arith))
-      ∙ two.at l k
-      ∙ ap (λ (n : ℕ). eqb ((base + l) / n % 3) 2) raised
-      ∙ sym (other_digit 2 ((base + l) / 3 ^ i % 3) (λ e. omega arith))
+      two.at l k ∙ ap (λ (n : ℕ). eqb ((base + l) / n % 3) 2) raised ∙ sym (other_digit 2 ((base + l) / 3 ^ i % 3) (λ e. omega arith))
   here (suc (suc (suc d))) l h k = absurd (omega arith)
 
-  pub tabled_more : Tabled (i + 1) base with_both
+  pub tabled_more : Tabled (i + 1) base (set table i row)
   tabled_more = record {
-    size = length-set with_one (3 * i + 2) ruled ∙ length-set table (3 * i + 1) assumed ∙ so_far.size;
+    size = length-set table i row ∙ so_far.size;
     done = record {
       at = λ j d l h k m. elim (ℕ_discrete j i) [
-        | yes e ↦ rw e (here d l k m)
-        | no e ↦ ap (lane_bit l) (elsewhere (3 * j + d) (λ q. omega arith) (λ q. omega arith)) ∙ so_far.done.at j d l (omega arith) k m
+        | yes e ↦ (
+            let size = so_far.size in
+            rw e (ap (λ (r : List ℕ). lane_bit l (get_or r d 0)) (get_or-set_same table i row [] (omega arith)) ∙ here d l k m))
+        | no n ↦
+            ap (λ (r : List ℕ). lane_bit l (get_or r d 0)) (get_or-set_other table i j row [] n) ∙ so_far.done.at j d l (omega arith) k m
       ];
     };
-    rest = λ o h k. elsewhere o (λ e. omega arith) (λ e. omega arith) ∙ so_far.rest o (omega arith) k;
   }
 
 -- ---- the lanes of an entry
@@ -113,19 +94,19 @@ part_zero zero b = refl
 part_zero (suc k) b = part_zero k (b / 3)
 
 -- A walk over the digits of an entry: those from the i-th on are left to compare, in the lanes of the word.
-pub record EntryTo (k : ℕ) (table : List ℕ) (entry lanes i word rest : ℕ) : Type 0 where
+pub record EntryTo (k : ℕ) (table : List (List ℕ)) (entry lanes i word rest : ℕ) : Type 0 where
   pub at : (base : ℕ) → DigitTable k base table → (l : ℕ) → l < 64
       → (lane_bit l lanes and part_of k entry (base + l)) ≡ (lane_bit l word and part_of (k - i) rest ((base + l) / 3 ^ i))
 
-module _ (k : ℕ) (table : List ℕ) (entry lanes : ℕ) where
+module _ (k : ℕ) (table : List (List ℕ)) (entry lanes : ℕ) where
   pub entry_starts : EntryTo k table entry lanes 0 lanes entry
   entry_starts = record { at = λ base t l h. let e : k - 0 ≡ k = omega arith in rw (e, div-one (base + l)) }
 
   module _ (i word rest : ℕ) (so_far : EntryTo k table entry lanes i word rest) where
-    pub entry_next : i < k → EntryTo k table entry lanes (i + 1) (bit_and word (get_or table (3 * i + rest % 3) 0)) (rest / 3)
+    pub entry_next : i < k → EntryTo k table entry lanes (i + 1) (bit_and word (get_or (get_or table i []) (rest % 3) 0)) (rest / 3)
     entry_next inside = record {
       at = λ base t l h.
-          let w = get_or table (3 * i + rest % 3) 0 in
+          let w = get_or (get_or table i []) (rest % 3) 0 in
           let y = (base + l) / 3 ^ i in
           let others : k - i - 1 ≡ k - (i + 1) = omega arith in
           let next : y / 3 ≡ (base + l) / 3 ^ (i + 1) =
@@ -167,7 +148,7 @@ module _ (k : ℕ) (table : List ℕ) (entry lanes : ℕ) where
 -- ---- the lanes left by entries
 
 -- A walk over the entries: those of `more` are left to compare, with the lanes left.
-pub record LeftTo (k : ℕ) (table : List ℕ) (entries : List ℕ) (lanes : ℕ) (more : List ℕ) (left : ℕ) : Type 0 where
+pub record LeftTo (k : ℕ) (table : List (List ℕ)) (entries : List ℕ) (lanes : ℕ) (more : List ℕ) (left : ℕ) : Type 0 where
   pub at : (base : ℕ) → DigitTable k base table → (l : ℕ) → l < 64
       → (lane_bit l lanes and not (contains_one k entries (base + l))) ≡ (lane_bit l left and not (contains_one k more (base + l)))
 
@@ -178,44 +159,49 @@ left_by true true c = refl
 left_by true false c = refl
 left_by false p c = refl
 
-module _ (k : ℕ) (table : List ℕ) (n : ℕ) (list : List ℕ) (lanes : ℕ) where
-  pub left_starts : LeftTo k table (take n list) lanes (drop 0 (take n list)) lanes
+module _ (k : ℕ) (table : List (List ℕ)) (entries : List ℕ) (lanes : ℕ) where
+  pub left_starts : LeftTo k table entries lanes entries lanes
   left_starts = record { at = λ base t l h. refl }
 
-  module _ (i left : ℕ) (held : n ≤ length list) (so_far : LeftTo k table (take n list) lanes (drop i (take n list)) left) where
-    pub left_next : i < n → (contained : ℕ) → contained < 18446744073709551616 → EntryLanes k table (get_or list i 0) left contained
-        → LeftTo k table (take n list) lanes (drop (i + 1) (take n list)) (bit_and left (18446744073709551615 - contained))
+  module _ (i left : ℕ) (so_far : LeftTo k table entries lanes (drop i entries) left) where
+    pub left_next : i < length entries → (contained : ℕ) → contained < 18446744073709551616 → EntryLanes k table (get_or entries i 0) left contained
+        → LeftTo k table entries lanes (drop (i + 1) entries) (bit_and left (18446744073709551615 - contained))
     unfolding contains_one
     left_next inside contained fits one = record {
       at = λ base t l h.
           so_far.at base t l h
-          ∙ rw (entries_next n list i held inside, lane_and l left (18446744073709551615 - contained), lane_not l contained h fits, one.at base t l h)
-          (left_by (lane_bit l left) (part_of k (get_or list i 0) (base + l)) (contains_one k (drop (i + 1) (take n list)) (base + l)));
+          ∙ rw (add-one, drop-cons entries i 0 inside, lane_and l left (18446744073709551615 - contained), lane_not l contained h fits, one.at base t l h)
+          (left_by (lane_bit l left) (part_of k (get_or entries i 0) (base + l)) (contains_one k (drop (suc i) entries) (base + l)));
     }
 
-    pub left_ends : n ≤ i → LanesLeft k table (take n list) lanes left
+    pub left_ends : length entries ≤ i → LanesLeft k table entries lanes left
     unfolding contains_one
     left_ends e = record {
       without = λ base t. record {
-        at = λ l h. sym (so_far.at base t l h ∙ rw (entries_end n list i held e) (and_true (lane_bit l left)));
+        at = λ l h. sym (so_far.at base t l h ∙ rw (drop_of_length-le entries {i = i} e) (and_true (lane_bit l left)));
       };
     }
 
-    pub left_none : left ≡ 0 → LanesLeft k table (take n list) lanes left
+    pub left_none : left ≡ 0 → LanesLeft k table entries lanes left
     left_none e = record {
       without = λ base t. record {
         at = λ l h.
             let clear : lane_bit l left ≡ false = ap (lane_bit l) e ∙ lane_none l in
-            let more = not (contains_one k (drop i (take n list)) (base + l)) in
+            let more = not (contains_one k (drop i entries) (base + l)) in
             clear ∙ sym (so_far.at base t l h ∙ ap (λ (b : Bool). b and more) clear ∙ false_and more);
       };
     }
 
 -- ---- the explanations that are new
 
-pub new_uncompared : (k base : ℕ) (list : List ℕ) (found explained : ℕ) → NewToFirst k base list found explained (record { lanes = explained; entries = 0 })
+pub new_uncompared : (k base : ℕ) (list : List ℕ) (found explained : ℕ)
+    → NewToFirst k base list found explained (record { lanes = explained; entries = 0 })
 unfolding contains_one
 new_uncompared k base list found explained = record {
   few = omega arith;
   without = record { at = λ l h. sym (and_true (lane_bit l explained)) };
 }
+
+pub new_compared : {k base : ℕ} {found : List ℕ} {explained lanes : ℕ} → Without k base found explained lanes
+    → NewToFirst k base found (length found) explained (record { lanes = lanes; entries = length found })
+new_compared {found = found} w = record { few = omega arith; without = rw (take-length found) w }

@@ -3,9 +3,11 @@
 use mathlib.Core.Path.{◌≡◌, refl, sym, ap, ◌∙◌}
 use mathlib.Core.Bool.{Bool, true, false, not}
 use mathlib.Core.List.{List}
-use Prim.Native.Nat.{ℕ, ◌^◌, ◌<◌, ◌≤◌}
+use Prim.Native.Nat.{ℕ, ◌+◌, ◌-◌, ◌^◌, ◌<◌, ◌≤◌}
+use native.Mathlib.Omega.{arith}
 use lib.ListN.{length, take, drop, take-append-drop}
 use lib.Seq.{take-take}
+use Rattle.std.proofs.lemmas.List.{drop-take}
 use Rattle.papers.specs.Tests.{◌and◌, ◌or◌}
 use Rattle.stepping.specs.declared.Move.TheVariants.{Stands, Tries, Writes}
 use Rattle.steps.specs.Explanations.{Problem}
@@ -26,12 +28,19 @@ new_of_both true true b = refl
 new_of_both true false b = refl
 new_of_both false a b = refl
 
+after_first : (first found : ℕ) (l : List ℕ) → first ≤ found → drop first (take found l) ≡ take (found - first) (drop first l)
+after_first first found l h =
+    let e : first + (found - first) ≡ found = omega arith in
+    ap (λ (n : ℕ). drop first (take n l)) (sym e) ∙ drop-take first (found - first) l
+
 new_since : (P : Problem) (p first found : ℕ) (l : List ℕ) → first ≤ found
-    → new_to P (take found l) p ≡ new_to P (take first l) p and not (contains_one P.abducibles (drop first (take found l)) p)
+    → new_to P (take found l) p ≡ new_to P (take first l) p and not (contains_one P.abducibles (take (found - first) (drop first l)) p)
 unfolding new_to
 new_since P p first found l h =
-    rw (contains_split P.abducibles first (take found l) p, take-take first found l h)
-    (new_of_both (P.explains p) (contains_one P.abducibles (take first l) p) (contains_one P.abducibles (drop first (take found l)) p))
+    let k = P.abducibles in
+    let after = take (found - first) (drop first l) in
+    rw (contains_split k first (take found l) p, take-take first found l h, after_first first found l h)
+    (new_of_both (P.explains p) (contains_one k (take first l) p) (contains_one k after p))
 
 -- ---- what is decided
 
@@ -50,14 +59,14 @@ module _ {k p first found : ℕ} {l : List ℕ} {new : Bool} where
 
     module _ (is-new : new ≡ true) where
       -- An explanation containing the assumptions of an entry after them.
-      pub decided_listed : contains_one k (drop first (take found l)) p ≡ true → Decided k p first found l new Tries
+      pub decided_listed : contains_one k (take (found - first) (drop first l)) p ≡ true → Decided k p first found l new Tries
       unfolding ◌and◌
       decided_listed h = record {
         is = λ P a b. move_tries P p found l (rw a inside) (new_since P p first found l compared ∙ rw (b, a, is-new, h));
         allowed = inside;
       }
 
-      module _ (unlisted : contains_one k (drop first (take found l)) p ≡ false) where
+      module _ (unlisted : contains_one k (take (found - first) (drop first l)) p ≡ false) where
         -- A new one, and there is room.
         pub decided_new : found < length l → Decided k p first found l new Writes
         unfolding ◌and◌

@@ -1,19 +1,18 @@
--- For loops: over the digits of a part, and over the entries of a list.
+-- The loop over the digits of a part, and whether an entry is one.
 -- Assumes nothing.
 use mathlib.Core.Path.{◌≡◌, refl}
 use mathlib.Core.Bool.{true, false}
-use mathlib.Core.List.{List}
+use mathlib.Core.List.{List, [], ◌∷◌}
 use mathlib.Core.Logic.{◌⊎◌, inl, inr}
-use Prim.Native.Nat.{ℕ, zero, suc, ◌+◌, ◌-◌, ◌/◌, ◌%◌, ◌<◌, ◌≤◌}
+use Prim.Native.Nat.{ℕ, zero, suc, ◌-◌, ◌/◌, ◌%◌, ◌<◌, ◌≤◌}
 use native.Mathlib.Omega.{arith}
 use borrow.Author.Tests.{eq-eqb, ne_eqb}
 use lib.Dec.{eqb}
-use lib.ListN.{length, get_or, take, drop}
+use Rattle.std.specs.List.{list_any}
 use Rattle.papers.specs.Tests.{◌and◌, ◌or◌}
 use Rattle.papers.proofs.TestLaws.{or_true}
 use Rattle.steps.specs.Explanations.{part_digit, part_of}
 use Rattle.steps.specs.Continuing.{contains_one}
-use Rattle.steps.proofs.Entries.{entries_next, entries_end}
 
 -- ---- the digits
 
@@ -40,17 +39,10 @@ unfolding part_of
 part_done zero a b h = refl
 part_done (suc k) a b h = absurd (omega arith)
 
--- ---- whether p contains one of the first n entries, from index i on
+-- ---- the entries
 
-module _ (n : ℕ) (l : List ℕ) (i : ℕ) (held : n ≤ length l) (k p : ℕ) where
-  pub contains_here : i < n → part_of k (get_or l i 0) p ≡ true → contains_one k (drop i (take n l)) p ≡ true
-  unfolding contains_one ◌or◌
-  contains_here h e = rw (entries_next n l i held h, e)
-
-  pub contains_next : i < n → part_of k (get_or l i 0) p ≡ false → contains_one k (drop i (take n l)) p ≡ contains_one k (drop (i + 1) (take n l)) p
-  unfolding contains_one ◌or◌
-  contains_next h e = rw (entries_next n l i held h, e)
-
-  pub contains_none : n ≤ i → contains_one k (drop i (take n l)) p ≡ false
-  unfolding contains_one
-  contains_none h = rw (entries_end n l i held h)
+-- What the library answers of any entry.
+pub contains_answer : (k p : ℕ) (xs : List ℕ) → list_any (λ x. part_of k x p) xs ≡ contains_one k xs p
+unfolding contains_one ◌or◌
+contains_answer k p [] = refl
+contains_answer k p (x ∷ xs) = rw (contains_answer k p xs)

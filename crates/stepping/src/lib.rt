@@ -12,7 +12,7 @@ use digitwise::contains_one;
 use lanes::words::in_lane;
 
 // What a step does.
-#[derive(Clone, Copy)]
+#[derive(Clone, Copy, PartialEq, Eq, Debug)]
 pub enum Move {
     Stands,
     Tries,
@@ -35,10 +35,7 @@ fn decide(
     if position == total {
         return Move::Stands;
     }
-    if !new {
-        return Move::Tries;
-    }
-    if contains_one(k, list, first, found, position) {
+    if !new || contains_one(k, &list[first..found], position) {
         return Move::Tries;
     }
     if found < list.len() {
@@ -48,7 +45,7 @@ fn decide(
 }
 
 // How far a call has come: its record, and what it has counted.
-#[derive(Clone, Copy)]
+#[derive(Clone, Copy, PartialEq, Eq, Debug)]
 pub struct Progress {
     pub position: u32,
     pub found: u32,
@@ -69,27 +66,23 @@ fn try_lane(
     requires { LaneReady k total first rounds before list.old }
     ensures { LaneTried k total first new rounds before list.old result list.new }
 {
-    let position = before.position;
-    let found = before.found;
-    let at = found as usize;
-    let tried = before.tried + 1;
-    let spent = before.rounds + rounds;
-    let step = decide(k, total, list, position, first, at, new);
+    let at = before.found as usize;
+    let step = decide(k, total, list, before.position, first, at, new);
     match step {
         Move::Stands => before,
         Move::Tries => Progress {
-            position: position + 1,
-            found,
-            tried,
-            rounds: spent,
+            position: before.position + 1,
+            tried: before.tried + 1,
+            rounds: before.rounds + rounds,
+            ..before
         },
         Move::Writes => {
-            list[at] = position;
+            list[at] = before.position;
             Progress {
-                position: position + 1,
-                found: found + 1,
-                tried,
-                rounds: spent,
+                position: before.position + 1,
+                found: before.found + 1,
+                tried: before.tried + 1,
+                rounds: before.rounds + rounds,
             }
         }
     }
@@ -110,19 +103,15 @@ pub fn try_lanes(
     ensures { LanesTried k total explained rounds.now count before list.old result list.new }
 {
     let found = before.found as usize;
-    let told = new_lanes(k, list, found, before.position, count, explained);
-    let unlisted = told.lanes;
-    let first = told.entries;
+    let new = new_lanes(k, &list[..found], before.position, count, explained);
     let mut reached = before;
-    let mut lane: usize = 0;
-    while lane < count {
+    for (lane, rounds) in rounds[..count].iter().enumerate() {
         let tried = reached.tried;
-        let new = in_lane(unlisted, lane);
-        reached = try_lane(list, k, total, first, new, rounds[lane], reached);
+        let unlisted = in_lane(new.lanes, lane);
+        reached = try_lane(list, k, total, new.entries, unlisted, *rounds, reached);
         if reached.tried == tried {
             return reached;
         }
-        lane += 1;
     }
     reached
 }

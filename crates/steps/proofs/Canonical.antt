@@ -126,7 +126,8 @@ module _ (P : Problem) (l : List ℕ) where
   -- ---- many steps
 
   -- Up to the stopping point m steps try the m scenarios from p on.
-  steps_at : (m p t r : ℕ) → p + m ≤ stop P (length l) → steps P m (work_at P l p t r) ≡ work_at P l (p + m) (t + m) (r + sum_below m (rounds_from P p))
+  steps_at : (m p t r : ℕ) → p + m ≤ stop P (length l)
+      → steps P m (work_at P l p t r) ≡ work_at P l (p + m) (t + m) (r + sum_below m (rounds_from P p))
   unfolding sum_below
   steps_at zero p t r h =
       steps_zero P (work_at P l p t r) ∙ (λ i. work_at P l (sym (add-zero p) i) (sym (add-zero t) i) (sym (add-zero r) i))
@@ -153,7 +154,9 @@ module _ (P : Problem) (l : List ℕ) where
 
       rest : steps P (w - m) (work_at P l (p + m) m sum) ≡ work_at P l (p + m) m sum
       rest = elim (ℕ_discrete w m) [
-        | yes q ↦ (let n : w - m ≡ 0 = omega arith in ap (λ (k : ℕ). steps P k (work_at P l (p + m) m sum)) n ∙ steps_zero P (work_at P l (p + m) m sum))
+        | yes q ↦ (
+            let n : w - m ≡ 0 = omega arith in
+            ap (λ (k : ℕ). steps P k (work_at P l (p + m) m sum)) n ∙ steps_zero P (work_at P l (p + m) m sum))
         | no q ↦ steps_still P (w - m) (work_at P l (p + m) m sum) (step_at_stop (p + m) m sum (omega arith))
       ]
 

@@ -58,7 +58,8 @@ module _ (P : Problem) where
       go tries e = rw (e, step) (kept_same s.found s.list)
       go writes e = rw (e, step) (kept_set s.found s.list s.position)
 
-  sound_tried : (p f : ℕ) (l : List ℕ) → p < scenarios P → Sound P (record { position = p; found = f }) l → Sound P (record { position = p + 1; found = f }) l
+  sound_tried : (p f : ℕ) (l : List ℕ) → p < scenarios P → Sound P (record { position = p; found = f }) l
+      → Sound P (record { position = p + 1; found = f }) l
   sound_tried p f l h s = record {
     within = omega arith;
     held = s.held;

@@ -116,7 +116,8 @@ module _ (P : Problem) (l : List ℕ) where
   calls_at (c ∷ cs) p e h q = go c.refused refl (calls_at cs)
     where
       Rest : Type 0
-      Rest = (p e : ℕ) → p ≤ stop P (length l) → e ≡ min (stop P (length l)) (p + allowances cs) → Ran cs p e (calls P cs (record_at P p) (list_at P l p))
+      Rest = (p e : ℕ) → p ≤ stop P (length l) → e ≡ min (stop P (length l)) (p + allowances cs)
+          → Ran cs p e (calls P cs (record_at P p) (list_at P l p))
 
       go : (b : Bool) → c.refused ≡ b → Rest → Ran (c ∷ cs) p e (calls P (c ∷ cs) (record_at P p) (list_at P l p))
       go true x rest =

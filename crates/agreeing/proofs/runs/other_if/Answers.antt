@@ -1,8 +1,0 @@
--- `agreeing::runs::other_if` meets its contract.
-use Rattle.agreeing.proofs.runs.other_if.Goals as goal
-
-pub returns-then-test : goal.returns-then-test
-returns-then-test c = rw c.if-test.true
-
-pub returns-else-test : goal.returns-else-test
-returns-else-test c = rw c.if-test.false
