@@ -1,11 +1,11 @@
 -- The items of a found line: each assumed or ruled-out abducible. Assumes nothing.
-use mathlib.Core.Path.{◌≡◌, ap}
+use mathlib.Core.Path.{◌≡◌, refl, ap}
 use mathlib.Core.List.{List, [], ◌∷◌, ◌++◌, append-nil}
-use Prim.Native.Nat.{ℕ, ◌+◌, ◌*◌, ◌/◌, ◌%◌, ◌≤◌, ◌<◌}
+use Prim.Native.Nat.{ℕ, ◌/◌, ◌%◌, ◌<◌}
+use native.Mathlib.Omega.{arith}
 use borrow.Author.Tests.{eq-eqb, ne_eqb}
-use lib.ListN.{length, get_or, drop}
+use lib.ListN.{length, get_or}
 use Rattle.papers.specs.Field.{number, numbers}
-use Rattle.papers.proofs.NumbersWalked.{read_number, no_number}
 use Rattle.decimals.specs.Decimal.{decimal}
 use Rattle.decimals.specs.Text.{spaced}
 use Rattle.found_lines.specs.FoundLine.{sign, assumption, assumptions}
@@ -31,15 +31,20 @@ item_signed atom digit e = rw (ne_eqb digit 0 e) (ap (λ (l : List ℕ). 32 ∷ 
 
 -- ---- all of them
 
-module _ (content : List ℕ) (i rest : ℕ) where
-  pub items_none : length content / 2 ≤ i → spaced (assumptions (numbers (drop (2 * i) content)) rest) ≡ []
-  unfolding assumptions spaced
-  items_none h = rw (no_number content i h)
+-- Fewer than two bytes hold no abducible.
+pub items_none : (content : List ℕ) (rest : ℕ) → length content < 2 → spaced (assumptions (numbers content) rest) ≡ []
+unfolding numbers assumptions spaced
+items_none [] rest h = refl
+items_none (high ∷ []) rest h = refl
+items_none (high ∷ low ∷ more) rest h = absurd (omega arith)
 
-  pub items_next : (atom : ℕ) → i < length content / 2 → atom ≡ number (get_or content (2 * i) 0) (get_or content (2 * i + 1) 0)
-      → spaced (assumptions (numbers (drop (2 * i) content)) rest)
-      ≡ spaced (assumption atom (rest % 3)) ++ spaced (assumptions (numbers (drop (2 * (i + 1)) content)) (rest / 3))
-  unfolding assumptions
-  items_next atom h e =
-      let n : numbers (drop (2 * i) content) ≡ atom ∷ numbers (drop (2 * (i + 1)) content) = read_number content i h e in
-      rw n (spaced_append (assumption atom (rest % 3)) (assumptions (numbers (drop (2 * (i + 1)) content)) (rest / 3)))
+-- The first abducible, and those after it.
+pub items_next : (pair more : List ℕ) (atom rest : ℕ) → length pair ≡ 2 → atom ≡ number (get_or pair 0 0) (get_or pair 1 0)
+    → spaced (assumptions (numbers (pair ++ more)) rest)
+    ≡ spaced (assumption atom (rest % 3)) ++ spaced (assumptions (numbers more) (rest / 3))
+unfolding numbers assumptions
+items_next (high ∷ low ∷ []) more atom rest h e =
+    rw (← e) (spaced_append (assumption atom (rest % 3)) (assumptions (numbers more) (rest / 3)))
+items_next [] more atom rest h e = absurd (omega arith)
+items_next (high ∷ []) more atom rest h e = absurd (omega arith)
+items_next (high ∷ low ∷ other ∷ others) more atom rest h e = absurd (omega arith)

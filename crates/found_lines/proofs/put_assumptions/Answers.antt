@@ -1,37 +1,38 @@
--- `found_lines::put_assumptions` meets its contract. The loop's invariant: the items from the i-th abducible on are left to put.
-use mathlib.Core.Path.{refl, ◌∙◌}
-use Prim.Native.Nat.{◌+◌, ◌*◌, ◌/◌, ◌%◌}
+-- `found_lines::put_assumptions` meets its contract.
+use mathlib.Core.Path.{◌∙◌}
 use native.Mathlib.Omega.{arith}
-use lib.ListN.{drop}
+use lib.ListN.{length-append}
+use Rattle.std.specs.Slice.Iter.{chunks_exact_rest}
 use Rattle.papers.specs.Field.{numbers}
 use Rattle.decimals.specs.Text.{spaced}
-use Rattle.found_lines.specs.FoundLine.{assumption, assumptions}
-use Rattle.decimals.proofs.Putting.{left_all, left_after, left_none}
+use Rattle.found_lines.specs.FoundLine.{assumptions}
+use Rattle.decimals.proofs.Printing.{due_all, due_after, due_none}
 use Rattle.found_lines.proofs.Items.{items_none, items_next}
 use Rattle.found_lines.proofs.put_assumptions.Goals as goal
 
-pub loop-i-init : goal.loop-i-init
-loop-i-init c =
+pub loop-pair-init : goal.loop-pair-init
+loop-pair-init c =
     let a = c.args in
-    (left_all a.at (spaced (assumptions (numbers a.abducibles.now) a.scenario)) a.buffer.now, (omega arith, (omega arith, refl)))
+    let all = c.chunks_exact-pair-items.ensures in
+    rw c.into_iter-pair-iterator.ensures.into_iter_gives
+    (rw all.rest (due_all (spaced (assumptions (numbers a.abducibles.now) a.scenario)) a.page.now), (all.size, rw all.rest (omega arith)))
 
-pub loop-i-preserved : goal.loop-i-preserved
-loop-i-preserved c =
-    let a = c.args in
-    let l = c.loop-i in
-    let put = c.put_assumption-end in
-    let atom = c.atom_at in
-    let next = items_next a.abducibles.now l.i l.rest atom.result.0 c.loop-i-test.true atom.ensures in
-    let more = spaced (assumptions (numbers (drop (2 * (l.i + 1)) a.abducibles.now)) (l.rest / 3)) in (
-      left_after (spaced (assumption atom.result.0 (l.rest % 3))) more put.ensures.0 (rw next at l.invariant.0),
-      (omega arith, (let p = put.ensures.1 in omega arith, put.auto.buffer ∙ l.invariant.1.1.1)),
+pub loop-pair-preserved : goal.loop-pair-preserved
+loop-pair-preserved c =
+    let l = c.loop-pair in
+    let step = c.in-Some.ensures.steps in
+    let pair = c.in-Some.pair.now in
+    let left = chunks_exact_rest c.next.new.self in
+    let two = step.1.1 ∙ l.invariant.1.0 in
+    let next = items_next pair left c.atom_at.result.0 l.rest two c.atom_at.ensures in
+    let sum = length-append pair left in (
+      due_after (rw (step.1.0, next) at l.invariant.0) c.put_assumption.ensures.item,
+      (step.0 ∙ l.invariant.1.0, let few = rw step.1.0 at l.invariant.1.1 in let x = c.put_assumption.ensures.short in omega arith),
     )
 
-pub shape_of-buffer : goal.shape_of-buffer
-shape_of-buffer c = c.loop-i.invariant.1.1.1
-
-pub returns : goal.returns
-returns c =
-    let a = c.args in
-    let l = c.loop-i in
-    (left_none (rw (items_none a.abducibles.now l.i l.rest c.loop-i-test.false) at l.invariant.0), omega arith)
+pub returns-clause-items : goal.returns-clause-items
+returns-clause-items c =
+    let l = c.loop-pair in
+    let left = chunks_exact_rest l.pair-iterator in
+    let few = c.in-None.ensures.steps.1.0 in
+    due_none (rw (items_none left l.rest (rw l.invariant.1.0 at few)) at l.invariant.0)

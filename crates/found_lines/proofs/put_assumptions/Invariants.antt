@@ -1,17 +1,16 @@
--- `found_lines::put_assumptions` meets its contract. The loop's invariant: the items from the i-th abducible on are left to put.
+-- `found_lines::put_assumptions` meets its contract. The loop's invariant: the items of the abducibles that are left are due.
 use mathlib.Core.Path.{◌≡◌}
-use Prim.Native.Nat.{◌+◌, ◌-◌, ◌*◌, ◌≤◌}
-use lib.ListN.{length, drop}
+use Prim.Native.Nat.{◌+◌, ◌*◌, ◌≤◌}
+use lib.ListN.{length}
+use Rattle.std.specs.Slice.Iter.{chunks_exact_rest, chunks_exact_size}
 use Rattle.papers.specs.Field.{numbers}
 use Rattle.decimals.specs.Text.{spaced}
 use Rattle.found_lines.specs.FoundLine.{assumptions}
-use Rattle.decimals.proofs.Putting.{Left}
+use Rattle.decimals.proofs.Printing.{Due}
 use Rattle.found_lines.proofs.put_assumptions.Given as goal
 
-abbrev pub invariant-loop-i : goal.invariant-loop-i
-invariant-loop-i l =
-    Left l.at (spaced (assumptions (numbers l.abducibles) l.scenario)) l.initial.buffer l.end (spaced (assumptions (numbers (drop (2 * l.i) l.abducibles)) l.rest)) l.buffer
-    × ((l.i ≤ l.count) × ((l.end ≤ l.at + 22 * l.i) × (length l.buffer ≡ length l.initial.buffer)))
-
-abbrev pub decreases-loop-i : goal.decreases-loop-i
-decreases-loop-i l = l.count - l.i
+abbrev pub invariant-loop-pair : goal.invariant-loop-pair
+invariant-loop-pair l =
+    let left = chunks_exact_rest l.pair-iterator in
+    Due (spaced (assumptions (numbers l.abducibles) l.scenario)) l.initial.page (spaced (assumptions (numbers left) l.rest)) l.page
+    × ((chunks_exact_size l.pair-iterator ≡ 2) × (l.page.at + 11 * length left ≤ l.initial.page.at + 11 * length l.abducibles))
