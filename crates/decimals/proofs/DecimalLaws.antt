@@ -8,8 +8,6 @@ use native.Mathlib.Decide.{dec_lt}
 use borrow.Author.Tests.{lt-ltb, le-ltb}
 use lib.ListN.{length, get_or, length-append, get_or-append}
 use Rattle.decimals.specs.Decimal.{digits, decimal}
-use Rattle.decimals.specs.Text.{Put}
-use Rattle.decimals.proofs.Putting.{put_two}
 
 -- ---- one digit, and one more
 
@@ -98,17 +96,3 @@ leading (suc room) n h p = elim (dec_lt n 10) [
 pub decimal_leading : (n : ℕ) → 0 < n → 48 < get_or (decimal n) 0 0
 unfolding decimal
 decimal_leading n p = (leading (suc n) n (omega arith) p).0
-
--- ---- put into a buffer
-
-module _ {at : ℕ} {buffer : List ℕ} (n : ℕ) where
-  pub one_put : {end : ℕ} {after : List ℕ} → n < 10 → Put at ((48 + n) ∷ []) buffer end after → Put at (decimal n) buffer end after × (end ≤ at + 20)
-  one_put h put = (rw (decimal_one n h) put, let p = put.place in omega arith)
-
-  pub more_put : {next end : ℕ} {between after : List ℕ} → n < 2 ^ 64 → 10 ≤ n → Put at (decimal (n / 10)) buffer next between
-      → Put next ((48 + n % 10) ∷ []) between end after → Put at (decimal n) buffer end after × (end ≤ at + 20)
-  more_put {end = end} {after = after} fits h higher last =
-      let put = put_two (decimal (n / 10)) ((48 + n % 10) ∷ []) higher last in
-      let whole : Put at (decimal n) buffer end after = rw (decimal_more n h) put in
-      let few = decimal_length 19 n (omega arith) in
-      (whole, let p = whole.place in omega arith)

@@ -6,6 +6,7 @@ ghost use Rattle.decimals.specs.Decimal.{decimal};
 ghost use Rattle.decimals.specs.Printing.{Printed};
 
 // A place in a lent buffer, from which on text is printed. Bytes past the buffer's end are left out, and the place counts them.
+#[derive(Drop)]
 pub struct Printer<'a> {
     buffer: &'a mut [u8],
     at: usize,
