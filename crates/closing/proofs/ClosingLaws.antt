@@ -1,7 +1,7 @@
 -- Closing sets of 64 lanes under the rules: what a rule and a pass keep, why passes end, and that they end at the least set of each lane.
 -- Assumes nothing.
 use mathlib.Core.Path.{◌≡◌, refl, sym, ap, subst, ◌∙◌}
-use mathlib.Core.Bool.{Bool, true, false, not, cond, true≢false}
+use mathlib.Core.Bool.{Bool, true, false, not, ◌||◌, true≢false}
 use mathlib.Core.List.{List, [], ◌∷◌}
 use mathlib.Core.Logic.{⊎_elim}
 use Prim.Native.Nat.{ℕ, suc, ◌+◌, ◌-◌, ◌*◌, ◌≤◌, ◌<◌}
@@ -21,7 +21,7 @@ use Rattle.model.specs.LeastSet.{body_holds, supported, Reduct, least}
 use Rattle.lanes.specs.Lanes.{lane_bit, lane}
 use Rattle.lanes.specs.Words.{Literals, total, Laned}
 use Rattle.closing.specs.Closing.{rule_in, visited_rule, rules_in, RulesStand, Judged, Raised, Passed, begun, then, ClosedTrue}
-use Rattle.papers.proofs.TestLaws.{both, left, right, either, either_left, either_right, true_and, false_and, true_or, false_or, or_false}
+use Rattle.papers.proofs.TestLaws.{both, left, right, either, either_left, either_right, true_and, false_and, false_or, or_false}
 use Rattle.model.proofs.SetLaws.{Sub, has_within, full_in, sub_refl}
 use Rattle.model.proofs.LeastLaws.{body_mono, least_closed, least_is}
 use Rattle.model.proofs.Support.{supported_tells, supported_is}
@@ -81,6 +81,13 @@ or_second : (a b : Bool) → (a or b) ≡ false → b ≡ false
 unfolding ◌or◌
 or_second true b e = no_flag e
 or_second false b e = e
+
+pub or_turned : (a b : Bool) → (a || b) ≡ (b or a)
+unfolding ◌or◌
+or_turned true true = refl
+or_turned true false = refl
+or_turned false true = refl
+or_turned false false = refl
 
 or_absorb : (a b : Bool) → (a or (not a and b)) ≡ (a or b)
 unfolding ◌or◌ ◌and◌
@@ -157,16 +164,6 @@ module _ {r : Rule} {negated before after : List ℕ} {changed : Bool} (so : Rai
           rw (sym s, raised_in r.head) (either_right _ _ (both _ _ (eqb_refl r.head) t))
 
 -- ---- a pass
-
-module _ {rules : List Rule} {negated before : List ℕ} {count : ℕ} {words after : List ℕ} {changed more : Bool}
-    (so : Passed rules negated before count words changed) (one : Raised (get_or rules count no_rule) negated words after more) where
-  -- A rule that changes its head's word,
-  pub then_changed : more ≡ true → Passed rules negated before (count + 1) after true
-  then_changed e = rw (e, true_or changed) at (then so one)
-
-  -- and one that does not.
-  pub then_kept : more ≡ false → Passed rules negated before (count + 1) after changed
-  then_kept e = rw (e, false_or changed) at (then so one)
 
 -- The rules bring a set nothing more.
 pub record Ruled (n : ℕ) (rules : List Rule) (negated s : Set) : Type 0 where
@@ -274,9 +271,9 @@ pub record Going (n : ℕ) (rules : List Rule) (negated before words : List ℕ)
   pub ruled : going ≡ false → (k : ℕ) → k < length rules → (l : ℕ) → l < 64
       → T (body_holds false (lane n l words) (lane n l negated) (get_or rules k no_rule).body) → T (lane_bit l (get_or words (get_or rules k no_rule).head 0))
 
--- It falls with each pass: the sum has grown, or the passes end.
-abbrev pub left_over : List ℕ → Bool → ℕ
-left_over words going = 513 * 18446744073709551616 - total words + cond going 1 0
+-- It falls with each pass that is not the last: the sum has grown.
+abbrev pub left_over : List ℕ → ℕ
+left_over words = 513 * 18446744073709551616 - total words
 
 module _ (n : ℕ) (rules : List Rule) (negated before : List ℕ) (j : Judged n rules) (begins : Laned before) where
   pub going_starts : Going n rules negated before before true
@@ -302,13 +299,10 @@ module _ (n : ℕ) (rules : List Rule) (negated before : List ℕ) (j : Judged n
       ruled = λ e k m l h t. let q = d.same e in rw q (d.ruled e k m l h (rw q at t));
     }
 
-    pub going_less : going ≡ true → left_over after changed < left_over words going
-    going_less e = rw e (by changed refl) where
-      by : (b : Bool) → changed ≡ b → left_over after b < left_over words true
-      by true c =
-          let d = passed in
-          omega (arith, d.more c, total_le after 18446744073709551615 (λ o. omega (arith, d.laned.fits o)), d.laned.many)
-      by false c = let d = passed in omega (arith, ap total (d.same c))
+    pub going_less : changed ≡ true → left_over after < left_over words
+    going_less c =
+        let d = passed in
+        omega (arith, d.more c, total_le after 18446744073709551615 (λ o. omega (arith, d.laned.fits o)), d.laned.many)
 
   going_ends : {words : List ℕ} → Going n rules negated before words false → (l : ℕ) → l < 64
       → lane n l words ≡ least n rules (record { seed = lane n l before; allowed = full n; negated = lane n l negated; undefined = false })

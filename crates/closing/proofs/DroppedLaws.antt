@@ -1,7 +1,7 @@
 -- Dropping what is not backed, one objective literal after the other, in every lane at once: an entry, a pass, passes until one changes nothing.
 -- Assumes nothing.
 use mathlib.Core.Path.{◌≡◌, refl, sym, ap, subst, ◌∙◌}
-use mathlib.Core.Bool.{Bool, true, false, not, cond, true≢false}
+use mathlib.Core.Bool.{Bool, true, false, not, ◌||◌, cond, true≢false}
 use mathlib.Core.List.{List, []}
 use Prim.Native.Nat.{ℕ, ◌+◌, ◌≤◌, ◌<◌}
 use native.Mathlib.Omega.{arith}
@@ -23,7 +23,8 @@ use Rattle.model.specs.Falsity.{entry_holds, backed}
 use Rattle.lanes.specs.Lanes.{lane_bit, lane}
 use Rattle.closing.specs.FalseWords.{GivenBacked, Dropped, Narrowed, BackedTo, DroppedTo, PartDropped}
 use Rattle.lanes.specs.Words.{total}
-use Rattle.papers.proofs.TestLaws.{both, left, right, or_mono, is_true, false_or, false_and}
+use Rattle.papers.proofs.TestLaws.{both, left, right, or_mono, is_true, true_or, false_or, false_and}
+use Rattle.closing.proofs.ClosingLaws.{or_turned}
 use Rattle.model.proofs.SetLaws.{Sub, has_within, set_ext}
 use Rattle.model.proofs.FalsityLaws.{backed_more}
 use Rattle.lanes.proofs.LaneLaws.{lane_and, lane_or, sized as lane-sized, has_lane, total_set}
@@ -215,7 +216,7 @@ module _ (p : Program) (truth backing before : List ℕ) (visited : ℕ → ℕ)
       go false e = let f = ap total (d.same e) in omega arith
 
     -- Some lanes lost it,
-    pub dropped_less : moved ≡ true → DroppedTo visited (i + 1) p truth backing before more true
+    dropped_less : moved ≡ true → DroppedTo visited (i + 1) p truth backing before more true
     dropped_less t = record {
       narrowed = narrows;
       same = λ q. absurd (true≢false q);
@@ -230,7 +231,7 @@ module _ (p : Program) (truth backing before : List ℕ) (visited : ℕ → ℕ)
     }
 
     -- or none did.
-    pub dropped_same : moved ≡ false → DroppedTo visited (i + 1) p truth backing before more changed
+    dropped_same : moved ≡ false → DroppedTo visited (i + 1) p truth backing before more changed
     dropped_same t = record {
       narrowed = narrows;
       same = λ q. still ∙ d.same q;
@@ -256,31 +257,19 @@ module _ (p : Program) (truth backing before : List ℕ) (visited : ℕ → ℕ)
           let e = still ∙ d.same q in
           rw e at (left_backed valid within d.narrowed.long one l h (rw e x))
 
+    pub dropped_then : DroppedTo visited (i + 1) p truth backing before more (changed || moved)
+    dropped_then = go moved refl where
+      go : (m : Bool) → moved ≡ m → DroppedTo visited (i + 1) p truth backing before more (changed || moved)
+      go true e = rw (or_turned changed moved, e, true_or changed) (dropped_less e)
+      go false e = rw (or_turned changed moved, e, false_or changed) (dropped_same e)
+
 -- ---- passes until one changes nothing
 
--- Where the passes have stopped, each is backed.
-pub record Dropping (visited : ℕ → ℕ) (count : ℕ) (p : Program) (truth backing before falses : List ℕ) (going : Bool) : Type 0 where
-  pub narrowed : Narrowed visited count p truth backing before falses
-  pub backed : going ≡ false → BackedTo visited count p truth backing falses
+module _ {visited : ℕ → ℕ} {count : ℕ} {p : Program} {truth backing before falses after : List ℕ} {changed : Bool}
+    (w : Narrowed visited count p truth backing before falses) (d : DroppedTo visited count p truth backing falses after changed) where
+  pub narrowed_pass : Narrowed visited count p truth backing before after
+  narrowed_pass = narrowed_then w d.narrowed (omega arith) (λ j h. (j, (h, refl)))
 
--- What is left to be done.
-abbrev pub left_over : List ℕ → Bool → ℕ
-left_over falses going = total falses + cond going 1 0
-
-module _ {visited : ℕ → ℕ} {count : ℕ} {p : Program} {truth backing : List ℕ} where
-  pub dropping_none : {before : List ℕ} → length before ≡ 513 → Dropping visited count p truth backing before before true
-  dropping_none e = record { narrowed = narrowed_none e; backed = λ q. absurd (true≢false q) }
-
-  module _ {falses after : List ℕ} {changed : Bool} (d : DroppedTo visited count p truth backing falses after changed) where
-    pub dropping_more : {before : List ℕ} {going : Bool} → Dropping visited count p truth backing before falses going
-        → Dropping visited count p truth backing before after changed
-    dropping_more w = record {
-      narrowed = narrowed_then w.narrowed d.narrowed (omega arith) (λ j h. (j, (h, refl)));
-      backed = λ e. subst (BackedTo visited count p truth backing) (sym (d.same e)) (d.backed e);
-    }
-
-    pub dropping_less : left_over after changed < left_over falses true
-    dropping_less = go changed refl where
-      go : (b : Bool) → changed ≡ b → total after + cond b 1 0 < total falses + 1
-      go true e = let f = d.fewer e in omega arith
-      go false e = let f = ap total (d.same e) in omega arith
+  -- Where the pass has changed nothing, each is backed.
+  pub part_dropped : changed ≡ false → PartDropped visited count p truth backing before after
+  part_dropped e = record { narrowed = narrowed_pass; backed = subst (BackedTo visited count p truth backing) (sym (d.same e)) (d.backed e) }

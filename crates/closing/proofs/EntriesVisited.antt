@@ -1,6 +1,7 @@
 -- The entries at the visited places: each is one of a judged literal, and each judged literal has one; those of a part.
 -- Assumes nothing.
 use mathlib.Core.Path.{◌≡◌, sym, ap, ◌∙◌}
+use mathlib.Core.Bool.{Bool}
 use mathlib.Core.List.{List}
 use Prim.Native.Nat.{ℕ, ◌+◌, ◌-◌, ◌≤◌, ◌<◌}
 use native.Mathlib.Omega.{arith}
@@ -12,7 +13,20 @@ use Rattle.parts.proofs.MarkedParts.{place_at, part_count, part_visit}
 use Rattle.rows.specs.Rows.{entry_row, StandsAt}
 use Rattle.rows.proofs.RowLaws.{entry_rows_count, entry_row_at}
 use Rattle.rows.proofs.StandLaws.{stands_first}
-use Rattle.closing.specs.FalseWords.{EntryStands, EntriesVisited, EntriesStand}
+use Rattle.closing.specs.FalseWords.{EntryStands, EntriesVisited, EntriesStand, Dropped}
+
+-- What a visit is of is judged.
+pub visit_judged : {p : Program} {rows visits : List ℕ} → EntriesVisited p rows visits → (i : ℕ) → i < length visits
+    → head_at rows visits i < judged p.atoms
+unfolding head_at
+visit_judged s i h = (s.at i h).within
+
+-- Its entry is dropped by its place.
+pub visit_dropped : {p : Program} (rows visits : List ℕ) (i : ℕ) {place : ℕ} {truth backing before after : List ℕ} {changed : Bool}
+    → place ≡ place_of (get_or visits i 0) → Dropped p (get_or rows place 0) truth backing before after changed
+    → Dropped p (head_at rows visits i) truth backing before after changed
+unfolding head_at
+visit_dropped rows visits i e d = rw (← e) d
 
 module _ {p : Program} {rows visits : List ℕ} (s : EntriesStand p rows visits) where
   pub visits_judged : length visits ≡ judged p.atoms

@@ -2,11 +2,12 @@
 -- Assumes nothing.
 use mathlib.Core.Path.{◌≡◌, refl, sym, ap, ◌∙◌}
 use mathlib.Core.Bool.{Bool, true, false, cond}
-use mathlib.Core.List.{List, [], ◌∷◌, map}
+use mathlib.Core.List.{List, [], ◌∷◌, ◌++◌, map}
 use Prim.Native.Nat.{ℕ, ◌+◌, ◌-◌, ◌*◌, ◌/◌, ◌≤◌, ◌<◌}
 use native.Mathlib.Omega.{arith}
 use lib.Bits.{bit_and}
 use lib.ListN.{length, get_or, take, drop, length-append}
+use lib.Seq.{take-append_seam, drop-append_seam}
 use Rattle.literals.specs.Numbering.{judged}
 use Rattle.literals.specs.BodyLiterals.{body_literal, conjugate_number, Below}
 use Rattle.literals.proofs.BodyLaws.{conjugate_read, listed_below, conjugate_below, below_named}
@@ -17,7 +18,7 @@ use Rattle.papers.proofs.RuleLaws.{rule_fitting}
 use Rattle.dual.specs.Table.{folds_of, has_entry, dual}
 use Rattle.dual.proofs.Folds.{FoldIn, folds_of_tell}
 use Rattle.rows.specs.Rows.{clauses_row, clause_of, clauses_of, entry_row, StandsAt}
-use Rattle.rows.proofs.StandLaws.{stands_first, stands_after, stands_front, stands_rest, stands_part}
+use Rattle.rows.proofs.StandLaws.{stands_first, stands_after, stands_part}
 use Rattle.papers.specs.Tests.{◌and◌}
 use Rattle.model.specs.Sets.{Set}
 use Rattle.model.specs.Falsity.{some_holds, folds_hold, entry_holds}
@@ -68,30 +69,21 @@ clauses_below p v o = go (has_entry p o) where
 
 -- ---- the loop
 
--- Of the lanes, each clause has a literal that holds in those of the word in which the clauses that are still to come have one.
-pub record EntryTo (p : Program) (o : ℕ) (rows truth falses : List ℕ) (lanes end at word : ℕ) : Type 0 where
-  pub rest : List (List ℕ)
-  pub below : All (Literals (judged p.atoms)) rest
-  pub stands : StandsAt (clauses_row rest) rows at
-  pub ends : at + length (clauses_row rest) ≡ end
+-- Of the lanes, each clause has a literal that holds in those of the word in which the clauses that are still to come have one: they are left.
+pub record EntryTo (p : Program) (o : ℕ) (truth falses left : List ℕ) (lanes word : ℕ) : Type 0 where
+  pub clauses : List (List ℕ)
+  pub below : All (Literals (judged p.atoms)) clauses
+  pub is : left ≡ clauses_row clauses
   pub holds : (l : ℕ)
       → (lane_bit l lanes and clauses_hold (lane (judged p.atoms) l truth) (lane (judged p.atoms) l falses) (clauses_of p o))
-      ≡ (lane_bit l word and clauses_hold (lane (judged p.atoms) l truth) (lane (judged p.atoms) l falses) rest)
-
--- The clause that stands at a place.
-pub record ClauseStands (n : ℕ) (rows : List ℕ) (at : ℕ) : Type 0 where
-  pub clause : List ℕ
-  pub size : get_or rows at 0 ≡ 2 * length clause
-  pub within : at + 1 + length clause ≤ length rows
-  pub part : take (length clause) (drop (at + 1) rows) ≡ clause
-  pub below : Literals n clause
+      ≡ (lane_bit l word and clauses_hold (lane (judged p.atoms) l truth) (lane (judged p.atoms) l falses) clauses)
 
 module _ (p : Program) (rows : List ℕ) (place : ℕ) (truth falses : List ℕ) (lanes : ℕ) (s : EntryStands p rows place) where
   abbrev o : ℕ
   o = get_or rows place 0
 
   -- How many numbers its clauses take.
-  pub entry_size : get_or rows (place + 1) 0 ≡ length (clauses_row (clauses_of p o))
+  entry_size : get_or rows (place + 1) 0 ≡ length (clauses_row (clauses_of p o))
   unfolding entry_row
   entry_size = stands_first (stands_after s.stands)
 
@@ -99,87 +91,99 @@ module _ (p : Program) (rows : List ℕ) (place : ℕ) (truth falses : List ℕ)
   unfolding entry_row
   entry_within = let w = s.stands.within in omega (arith, entry_size)
 
-  pub entry_to_none : (end at : ℕ) → at ≡ place + 2 → end ≡ place + 2 + get_or rows (place + 1) 0 → EntryTo p o rows truth falses lanes end at lanes
+  pub entry_to_none : (size : ℕ) → size ≡ get_or rows (place + 1) 0
+      → EntryTo p o truth falses (take (place + 2 + size - (place + 2)) (drop (place + 2) rows)) lanes lanes
   unfolding entry_row
-  entry_to_none end at e f = record {
-    rest = clauses_of p o;
-    below = clauses_below p s.valid o;
-    stands = let q : at ≡ place + 1 + 1 = omega arith in rw q (stands_after (stands_after s.stands));
-    ends = omega (arith, entry_size);
-    holds = λ l. refl;
-  }
+  entry_to_none size e =
+      let n : place + 2 + size - (place + 2) ≡ length (clauses_row (clauses_of p o)) = omega (arith, entry_size) in
+      let q : place + 2 ≡ place + 1 + 1 = omega arith in
+      let clauses : StandsAt (clauses_row (clauses_of p o)) rows (place + 2) = rw q (stands_after (stands_after s.stands)) in
+      record {
+        clauses = clauses_of p o;
+        below = clauses_below p s.valid o;
+        is = ap (λ (k : ℕ). take k (drop (place + 2) rows)) n ∙ stands_part (clauses_row (clauses_of p o)) rows (place + 2) clauses;
+        holds = λ l. refl;
+      }
 
-  pub entry_to_all : (end at word : ℕ) → EntryTo p o rows truth falses lanes end at word → end ≤ at → EntryWord p o truth falses lanes word
-  unfolding clauses_hold clauses_row
-  entry_to_all end at word w h = go w.rest w.ends w.holds where
-    go : (rest : List (List ℕ)) → at + length (clauses_row rest) ≡ end
-        → ((l : ℕ) → (lane_bit l lanes and clauses_hold (lane (judged p.atoms) l truth) (lane (judged p.atoms) l falses) (clauses_of p o))
-        ≡ (lane_bit l word and clauses_hold (lane (judged p.atoms) l truth) (lane (judged p.atoms) l falses) rest))
-        → EntryWord p o truth falses lanes word
-    go [] e i = record {
+  module _ (left : List ℕ) (word : ℕ) (w : EntryTo p o truth falses left lanes word) where
+    pub entry_to_all : length left ≡ 0 → EntryWord p o truth falses lanes word
+    unfolding clauses_hold clauses_row
+    entry_to_all e = go w.clauses (sym (ap length w.is) ∙ e) w.holds where
+      go : (clauses : List (List ℕ)) → length (clauses_row clauses) ≡ 0
+          → ((l : ℕ) → (lane_bit l lanes and clauses_hold (lane (judged p.atoms) l truth) (lane (judged p.atoms) l falses) (clauses_of p o))
+          ≡ (lane_bit l word and clauses_hold (lane (judged p.atoms) l truth) (lane (judged p.atoms) l falses) clauses))
+          → EntryWord p o truth falses lanes word
+      go [] e i = record {
+        at = λ l k.
+            let trues = lane (judged p.atoms) l truth in
+            let set = lane (judged p.atoms) l falses in
+            sym (ap (λ (b : Bool). lane_bit l lanes and b) (entry_clauses p trues set o s.within) ∙ i l ∙ and_true (lane_bit l word));
+      }
+      go (clause ∷ more) e i = absurd (omega arith)
+
+    -- Where no lane is left, none comes in.
+    pub entry_to_left : word ≡ 0 → EntryWord p o truth falses lanes 0
+    entry_to_left e = record {
       at = λ l k.
           let trues = lane (judged p.atoms) l truth in
           let set = lane (judged p.atoms) l falses in
-          sym (ap (λ (b : Bool). lane_bit l lanes and b) (entry_clauses p trues set o s.within) ∙ i l ∙ and_true (lane_bit l word));
+          lane_none l
+          ∙ sym (ap (λ (b : Bool). lane_bit l lanes and b) (entry_clauses p trues set o s.within) ∙ w.holds l ∙ rw (e, lane_none l) (false_and _));
     }
-    go (clause ∷ more) e i = absurd (omega arith)
 
-  -- Where no lane is left, none comes in.
-  pub entry_to_left : (end at word : ℕ) → EntryTo p o rows truth falses lanes end at word → word ≡ 0 → EntryWord p o truth falses lanes 0
-  entry_to_left end at word w e = record {
-    at = λ l k.
-        let trues = lane (judged p.atoms) l truth in
-        let set = lane (judged p.atoms) l falses in
-        lane_none l
-        ∙ sym (ap (λ (b : Bool). lane_bit l lanes and b) (entry_clauses p trues set o s.within) ∙ w.holds l ∙ rw (e, lane_none l) (false_and _));
-  }
+    -- The clause that comes next, and those after it.
+    module _ (size : ℕ) (more : List ℕ) (cut : left ≡ size ∷ more) {half : ℕ} (at : half ≡ size / 2) where
+      record Next : Type 0 where
+        clause : List ℕ
+        others : List (List ℕ)
+        here : w.clauses ≡ clause ∷ others
+        sized : size ≡ 2 * length clause
+        rest : more ≡ clause ++ clauses_row others
 
-  module _ (end at word : ℕ) (w : EntryTo p o rows truth falses lanes end at word) (h : at < end) where
-    pub entry_to_clause : ClauseStands (judged p.atoms) rows at
-    unfolding clauses_row
-    entry_to_clause = go w.rest w.below w.stands w.ends where
-      go : (rest : List (List ℕ)) → All (Literals (judged p.atoms)) rest → StandsAt (clauses_row rest) rows at → at + length (clauses_row rest) ≡ end
-          → ClauseStands (judged p.atoms) rows at
-      go [] b t e = absurd (omega arith)
-      go (clause ∷ more) b t e =
-          let f = stands_front clause (clauses_row more) rows (at + 1) (stands_after t) in
-          record {
-            clause = clause;
-            size = stands_first t;
-            within = f.within;
-            part = stands_part clause rows (at + 1) f;
-            below = (first_of b).0;
-          }
+      next : Next
+      unfolding clauses_row
+      next = go w.clauses refl (sym cut ∙ w.is) where
+        go : (clauses : List (List ℕ)) → w.clauses ≡ clauses → size ∷ more ≡ clauses_row clauses → Next
+        go [] e i = cc
+        go (clause ∷ others) e i = record { clause = clause; others = others; here = e; sized = cc; rest = cc }
 
-    -- One more clause is in the word.
-    pub entry_to_more : (next some : ℕ) → next ≡ at + 1 + get_or rows at 0 / 2 → SomeWord (take (next - (at + 1)) (drop (at + 1) rows)) truth falses some
-        → EntryTo p o rows truth falses lanes end next (bit_and word some)
-    unfolding clauses_row clauses_hold
-    entry_to_more next some e m = go w.rest w.below w.stands w.ends w.holds where
-      go : (rest : List (List ℕ)) → All (Literals (judged p.atoms)) rest → StandsAt (clauses_row rest) rows at → at + length (clauses_row rest) ≡ end
-          → ((l : ℕ) → (lane_bit l lanes and clauses_hold (lane (judged p.atoms) l truth) (lane (judged p.atoms) l falses) (clauses_of p o))
-          ≡ (lane_bit l word and clauses_hold (lane (judged p.atoms) l truth) (lane (judged p.atoms) l falses) rest))
-          → EntryTo p o rows truth falses lanes end next (bit_and word some)
-      go [] b t q i = absurd (omega arith)
-      go (clause ∷ more) b t q i =
-          let size = stands_first t in
-          let a = length-append clause (clauses_row more) in
-          let f = stands_front clause (clauses_row more) rows (at + 1) (stands_after t) in
-          let n : next - (at + 1) ≡ length clause = omega arith in
-          let part : take (next - (at + 1)) (drop (at + 1) rows) ≡ clause =
-          ap (λ (k : ℕ). take k (drop (at + 1) rows)) n ∙ stands_part clause rows (at + 1) f in
-          let there : next ≡ at + 1 + length clause = omega arith in
-          record {
-            rest = more;
-            below = (first_of b).1;
-            stands = rw there (stands_rest clause (clauses_row more) rows (at + 1) (stands_after t));
-            ends = omega arith;
-            holds = λ l.
-                let trues = lane (judged p.atoms) l truth in
-                let set = lane (judged p.atoms) l falses in
-                i l
-                ∙ ap (λ (x : Bool). lane_bit l word and (x and clauses_hold trues set more))
-                (sym ((rw part at (m.at (judged p.atoms) l)) (first_of b).0))
-                ∙ sym (and_assoc (lane_bit l word) (lane_bit l some) (clauses_hold trues set more))
-                ∙ ap (λ (x : Bool). x and clauses_hold trues set more) (sym (lane_and l word some));
-          }
+      half_is : half ≡ length next.clause
+      half_is = let e = next.sized in omega arith
+
+      pub clause_whole : half ≤ length more
+      clause_whole = omega (arith, half_is, ap length next.rest, length-append next.clause (clauses_row next.others))
+
+      module _ {clause others : List ℕ} (front : clause ≡ take half more) (back : others ≡ drop half more) where
+        clause_is : clause ≡ next.clause
+        clause_is =
+            front
+            ∙ ap (λ (k : ℕ). take k more) half_is
+            ∙ ap (take (length next.clause)) next.rest
+            ∙ take-append_seam next.clause (clauses_row next.others)
+
+        others_are : others ≡ clauses_row next.others
+        others_are =
+            back
+            ∙ ap (λ (k : ℕ). drop k more) half_is
+            ∙ ap (drop (length next.clause)) next.rest
+            ∙ drop-append_seam next.clause (clauses_row next.others)
+
+        pub clause_below : Literals (judged p.atoms) clause
+        clause_below = rw clause_is (first_of (rw next.here at w.below)).0
+
+        -- One more clause is in the word.
+        pub entry_to_more : (some : ℕ) → SomeWord clause truth falses some → EntryTo p o truth falses others lanes (bit_and word some)
+        unfolding clauses_hold
+        entry_to_more some m = record {
+          clauses = next.others;
+          below = (first_of (rw next.here at w.below)).1;
+          is = others_are;
+          holds = λ l.
+              let trues = lane (judged p.atoms) l truth in
+              let set = lane (judged p.atoms) l falses in
+              (rw next.here at (w.holds l))
+              ∙ ap (λ (x : Bool). lane_bit l word and (x and clauses_hold trues set next.others))
+              (sym ((rw clause_is at (m.at (judged p.atoms) l)) (first_of (rw next.here at w.below)).0))
+              ∙ sym (and_assoc (lane_bit l word) (lane_bit l some) (clauses_hold trues set next.others))
+              ∙ ap (λ (x : Bool). x and clauses_hold trues set next.others) (sym (lane_and l word some));
+        }

@@ -6,8 +6,9 @@ ghost use Rattle.parts.specs.Parts.{head_at};
 ghost use Rattle.closing.specs.FalseWords.{EntryStands, EntriesVisited, EntriesStand, SomeWord, EntryWord, Dropped, DroppedTo, PartDropped, FalseWords};
 ghost use Rattle.std.specs.Prelude.{length, get_or, ◌≡◌};
 
-use decoded::{body_literal_in, number_in, objective_in};
-use lanes::words::{other_lanes, word_of};
+use decoded::{number_in, objective_in};
+use lanes::words::word_of;
+use literals::bodies::body_literal;
 use parts::{part_end, place_of};
 use sets::fill_words;
 
@@ -16,13 +17,9 @@ fn clause_word(clause: &[u16], truth: &[u64; 513], falses: &[u64; 513]) -> u64
     requires { Literals 513 clause.now }
     ensures { SomeWord clause.now truth.now falses.now result }
 {
-    let count = clause.len();
-    let mut word: u64 = 0;
-    let mut i: usize = 0;
-    while i < count {
-        let x = body_literal_in(clause, i);
-        word = word | word_of(x, truth, falses);
-        i += 1;
+    let mut word = 0;
+    for number in clause {
+        word |= word_of(body_literal(usize::from(*number)), truth, falses);
     }
     word
 }
@@ -39,17 +36,17 @@ fn entry_word(
     requires { EntryStands (program_in file.now) rows.now place }
     ensures { EntryWord (program_in file.now) (get_or rows.now place 0) truth.now falses.now lanes result }
 {
-    let end = place + 2 + number_in(rows, place + 1);
+    let start = place + 2;
+    let end = start + number_in(rows, place + 1);
     let mut word = lanes;
-    let mut at = place + 2;
-    while at < end {
+    let mut rest = &rows[start..end];
+    while let Some((size, more)) = rest.split_first() {
         if word == 0 {
             return 0;
         }
-        let start = at + 1;
-        let next = start + number_in(rows, at) / 2;
-        word = word & clause_word(&rows[start..next], truth, falses);
-        at = next;
+        let (clause, others) = more.split_at(usize::from(*size / 2));
+        word &= clause_word(clause, truth, falses);
+        rest = others;
     }
     word
 }
@@ -67,14 +64,11 @@ fn drop_entry(
     ensures { Dropped (program_in file.now) (get_or rows.now place 0) truth.now backing.now
         falses.old falses.new result }
 {
-    let o = objective_in(rows, place);
-    let at = o.0;
-    let old = falses[at];
-    let given = backing[at];
-    let lanes = old & other_lanes(given);
-    let word = entry_word(file, rows, place, truth, falses, lanes);
-    let new = old & (given | word);
-    falses[at] = new;
+    let o = objective_in(rows, place).0;
+    let old = falses[o];
+    let given = backing[o];
+    let new = old & (given | entry_word(file, rows, place, truth, falses, old & !given));
+    falses[o] = new;
     new != old
 }
 
@@ -91,15 +85,9 @@ fn drop_pass(
     ensures { DroppedTo (head_at rows.now visits.now) (length visits.now) (program_in file.now)
         truth.now backing.now falses.old falses.new result }
 {
-    let count = visits.len();
     let mut changed = false;
-    let mut i: usize = 0;
-    while i < count {
-        let place = place_of(visits[i]);
-        if drop_entry(file, rows, place, truth, backing, falses) {
-            changed = true;
-        }
-        i += 1;
+    for visit in visits {
+        changed |= drop_entry(file, rows, place_of(*visit), truth, backing, falses);
     }
     changed
 }
@@ -117,14 +105,11 @@ fn drop_part(
     ensures { PartDropped (head_at rows.now visits.now) (length visits.now) (program_in file.now)
         truth.now backing.now falses.old falses.new }
 {
-    if visits.len() == 1 {
-        drop_entry(file, rows, place_of(visits[0]), truth, backing, falses);
+    if let [visit] = visits {
+        drop_entry(file, rows, place_of(*visit), truth, backing, falses);
         return;
     }
-    let mut going = true;
-    while going {
-        going = drop_pass(file, rows, visits, truth, backing, falses);
-    }
+    while drop_pass(file, rows, visits, truth, backing, falses) {}
 }
 
 // The greatest set, in each lane: from all judged literals, part by part.
@@ -139,10 +124,9 @@ pub fn close_false(
     requires { EntriesStand (program_in file.now) rows.now visits.now }
     ensures { FalseWords (program_in file.now) truth.now backing.now falses.old falses.new }
 {
-    let count = visits.len();
-    fill_words(falses, count, 18446744073709551615);
-    let mut start: usize = 0;
-    while start < count {
+    fill_words(falses, visits.len(), u64::MAX);
+    let mut start = 0;
+    while start < visits.len() {
         let end = part_end(visits, start);
         drop_part(file, rows, &visits[start..end], truth, backing, falses);
         start = end;

@@ -1,54 +1,38 @@
 -- `closing::truth::close_part` meets its contract. The loop's invariant: the sets so far are in every set that they began in and that the
--- rules bring nothing more, and the rules bring them nothing more where the passes have ended.
-use mathlib.Core.Path.{sym, subst}
-use mathlib.Core.List.{List}
-use Prim.Native.Nat.{ℕ}
+-- rules bring nothing more.
+use mathlib.Core.Path.{sym}
 use native.Mathlib.Omega.{arith}
-use lib.ListN.{length}
-use Rattle.papers.specs.Program.{Rule}
-use Rattle.closing.specs.Closing.{rules_in, Passed}
+use Rattle.lanes.specs.Words.{Laned}
 use Rattle.closing.proofs.ClosingLaws.{rows_judged, length_rules, going_starts, going_on, going_less, going_closed}
 use Rattle.closing.proofs.TrueParts.{single_closed}
 use Rattle.closing.proofs.truth.close_part.Goals as goal
-use Rattle.closing.proofs.truth.close_part.Goals.{After-close_pass-going}
-
--- A pass over all rules.
-module _ (c : After-close_pass-going) where
-  abbrev rules : List Rule
-  rules = rules_in c.args.rows.now c.args.visits.now
-
-  passed : Passed rules c.args.falses.now c.loop-going.truth (length rules) c.close_pass-going.new.truth c.close_pass-going.result
-  passed =
-      subst (λ (n : ℕ). Passed rules c.args.falses.now c.loop-going.truth n c.close_pass-going.new.truth c.close_pass-going.result)
-      (sym (length_rules c.args.rows.now c.args.visits.now)) c.close_pass-going.ensures
 
 pub close_rule-requires : goal.close_rule-requires
-close_rule-requires c =
-    rw c.place_of.ensures (c.requires.at 0 (omega arith))
+close_rule-requires c = rw c.place_of.ensures (c.requires.at 0 (omega arith))
 
-pub returns-then-visits-eq1 : goal.returns-then-visits-eq1
-returns-then-visits-eq1 c =
-    single_closed c.args.rows.now c.args.visits.now c.if-visits-eq1.true c.requires c.lent_known.ensures
+pub returns-in-len1 : goal.returns-in-len1
+returns-in-len1 c =
+    single_closed _ _ (omega arith) c.requires (record { many = c.told-truth; fits = c.fits-truth })
     (rw c.place_of.ensures at c.close_rule.ensures)
 
-pub loop-going-init : goal.loop-going-init
-loop-going-init c =
-    let a = c.args in
-    λ n j. going_starts n (rules_in a.rows.now a.visits.now) a.falses.now a.truth.now j c.lent_known.ensures
+pub loop-init : goal.loop-init
+loop-init c = λ n j. going_starts n _ _ _ j (record { many = c.told-truth; fits = c.fits-truth })
 
-pub loop-going-smaller : goal.loop-going-smaller
-loop-going-smaller c =
-    let a = c.args in
-    let j = rows_judged a.rows.now a.visits.now c.requires in
-    going_less 513 (rules (goal.at.loop-going-smaller c).After-close_pass-going) a.falses.now a.truth.now j c.lent_known.ensures (c.loop-going.invariant 513 j) (passed (goal.at.loop-going-smaller c).After-close_pass-going)
-    c.loop-going-test.true
+pub loop-smaller : goal.loop-smaller
+loop-smaller c =
+    let j = rows_judged _ _ c.requires in
+    going_less 513 _ _ _ j (record { many = c.told-truth; fits = c.fits-truth }) (c.loop.invariant 513 j)
+    (rw (sym (length_rules c.args.rows.now c.args.visits.now)) at c.close_pass.ensures) c.loop-test.true
 
-pub loop-going-preserved : goal.loop-going-preserved
-loop-going-preserved c =
-    let a = c.args in
-    λ n j. going_on n (rules (goal.at.loop-going-preserved c).After-close_pass-going) a.falses.now a.truth.now j c.lent_known.ensures (c.loop-going.invariant n j) (passed (goal.at.loop-going-preserved c).After-close_pass-going)
+pub loop-preserved : goal.loop-preserved
+loop-preserved c =
+    λ n j.
+    going_on n _ _ _ j (record { many = c.told-truth; fits = c.fits-truth }) (c.loop.invariant n j)
+    (rw (c.loop-test.true, sym (length_rules c.args.rows.now c.args.visits.now)) at c.close_pass.ensures)
 
 pub returns : goal.returns
 returns c =
-    going_closed c.lent_known.ensures (rows_judged c.args.rows.now c.args.visits.now c.requires)
-    (rw c.loop-going-test.false at c.loop-going.invariant)
+    let begins : Laned c.args.truth.now = record { many = c.told-truth; fits = c.fits-truth } in
+    going_closed begins (rows_judged _ _ c.requires)
+    (λ n j. going_on n _ _ _ j begins (c.loop.invariant n j)
+    (rw (c.loop-test.false, sym (length_rules c.args.rows.now c.args.visits.now)) at c.close_pass.ensures))
