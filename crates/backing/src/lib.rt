@@ -6,21 +6,20 @@ ghost use Rattle.std.specs.Prelude.{◌≡◌, ◌<◌, ◌≤◌};
 ghost use Rattle.literals.specs.Numbering.{judged};
 ghost use Rattle.lanes.specs.Lanes.{backing_word, Written};
 
-use conjugates::Conjugate;
-use lanes::words::lent_known;
-use literals::Objective;
+use conjugates::explicit_conjugate_number;
+use literals::{Objective, judged};
+use sets::write_words;
 
+// The word of one.
+#[tactic(auto, using(crate::proofs::BackingLaws::backing_conjugate, crate::proofs::BackingLaws::backing_bare, crate::proofs::BackingLaws::conjugate_few))]
 fn backing_word(trues: &[u64; 513], falses: &[u64; 513], atoms: u16, o: Objective) -> u64
     requires { (o.0 < 513) × (atoms ≤ 256) }
     ensures { result ≡ backing_word atoms trues.now falses.now o.0 }
 {
-    let at = o.0;
-    let conjugate = conjugates::explicit_conjugate_number(o, atoms);
-    let Conjugate::Is(other) = conjugate else {
-        return falses[at];
-    };
-    let opposite = other.0;
-    trues[opposite] | falses[at]
+    match explicit_conjugate_number(o, atoms) {
+        Some(other) => trues[other.0] | falses[o.0],
+        None => falses[o.0],
+    }
 }
 
 // The judged literals' words, into a lent row.
@@ -28,11 +27,9 @@ pub fn backing_words(trues: &[u64; 513], falses: &[u64; 513], atoms: u16, words:
     requires { atoms ≤ 256 }
     ensures { Written (judged atoms) (backing_word atoms trues.now falses.now) words.old words.new }
 {
-    lent_known(words);
-    let count = literals::judged(atoms);
-    let mut i: usize = 0;
-    while i < count {
-        words[i] = backing_word(trues, falses, atoms, Objective(i));
-        i += 1;
-    }
+    write_words(
+        words,
+        judged(atoms),
+        |i| backing_word(trues, falses, atoms, Objective(i)),
+    );
 }

@@ -1,0 +1,2 @@
+-- What a literal's conjugate says of its word.
+mod BackingLaws
