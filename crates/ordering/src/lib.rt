@@ -16,10 +16,8 @@ use numbers::lay;
 
 // The place of each row in an order.
 fn invert(order: &[u16], ranks: &mut [u16], count: usize) {
-    let mut i: usize = 0;
-    while i < count {
+    for i in 0..count {
         lay(ranks, get(order, i, 0), i);
-        i += 1;
     }
 }
 
@@ -28,21 +26,12 @@ fn is_order(order: &[u16], ranks: &[u16], count: usize) -> bool
     requires { (count ≤ length order.now) × (count ≤ length ranks.now) }
     ensures { result ≡ true → Ordered count order.now ranks.now }
 {
-    let mut k: usize = 0;
-    while k < count {
+    for k in 0..count {
         let row = wide(order[k]);
-        if count <= row {
-            return false;
-        }
         let rank = wide(ranks[k]);
-        if count <= rank {
+        if count <= row || count <= rank || wide(order[rank]) != k {
             return false;
         }
-        let back = wide(order[rank]);
-        if back != k {
-            return false;
-        }
-        k += 1;
     }
     true
 }
@@ -52,10 +41,8 @@ fn count_up(numbers: &mut [u16], count: usize)
     requires { (count ≤ 1280) × (count ≤ length numbers.old) }
     ensures { Written own count numbers.old numbers.new }
 {
-    let mut i: usize = 0;
-    while i < count {
+    for i in 0..count {
         numbers[i] = i as u16;
-        i += 1;
     }
 }
 
@@ -64,11 +51,10 @@ fn settle(order: &mut [u16], ranks: &mut [u16], count: usize)
     requires { (count ≤ 1280) × ((count ≤ length order.old) × (count ≤ length ranks.old)) }
     ensures { Ordered count order.new ranks.new }
 {
-    if is_order(order, ranks, count) {
-        return;
+    if !is_order(order, ranks, count) {
+        count_up(order, count);
+        count_up(ranks, count);
     }
-    count_up(order, count);
-    count_up(ranks, count);
 }
 
 // The start of each row, in the given order.
@@ -79,11 +65,9 @@ fn visit(order: &[u16], starts: &[u16], visits: &mut [u16], count: usize)
         × ((k : ℕ) → k < count → get_or order.now k 0 < count))) }
     ensures { Written (start_at order.now starts.now) count visits.old visits.new }
 {
-    let mut i: usize = 0;
-    while i < count {
+    for i in 0..count {
         let row = wide(order[i]);
         visits[i] = starts[row];
-        i += 1;
     }
 }
 

@@ -3,10 +3,7 @@ use arrays::put;
 
 // A number in 16 bits, or the greatest that they hold.
 pub(crate) fn short(number: usize) -> u16 {
-    if number < 65536 {
-        return number as u16;
-    }
-    65535
+    u16::try_from(number).unwrap_or(u16::MAX)
 }
 
 // A number laid at a place; nothing where the array ends before it.

@@ -6,10 +6,10 @@ use Rattle.ordering.proofs.count_up.Goals as goal
 
 pub loop-i-preserved : goal.loop-i-preserved
 loop-i-preserved c =
-    let l = c.loop-i in
-    (written_more l.i (let s = l.invariant.0.stays.sized in omega arith) refl l.invariant.0, omega arith)
+    let w = c.loop-i.invariant in
+    written_more c.loop-i.i (let s = w.stays.sized in omega arith) refl w
 
 pub returns : goal.returns
 returns c =
     let e : c.loop-i.i ≡ c.args.count = omega arith in
-    rw e at c.loop-i.invariant.0
+    rw e at c.loop-i.invariant

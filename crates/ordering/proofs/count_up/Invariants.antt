@@ -1,10 +1,6 @@
 -- `ordering::count_up` meets its contract. The loop's invariant: the first i numbers are written.
-use Prim.Native.Nat.{◌-◌, ◌≤◌}
 use Rattle.ordering.specs.Orders.{Written, own}
 use Rattle.ordering.proofs.count_up.Given as goal
 
 abbrev pub invariant-loop-i : goal.invariant-loop-i
-invariant-loop-i l = Written own l.i l.initial.numbers l.numbers × (l.i ≤ l.count)
-
-abbrev pub decreases-loop-i : goal.decreases-loop-i
-decreases-loop-i l = l.count - l.i
+invariant-loop-i l = Written own l.i l.initial.numbers l.numbers

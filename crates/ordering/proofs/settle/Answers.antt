@@ -2,10 +2,8 @@
 use Rattle.ordering.proofs.OrderLaws.{own_ordered}
 use Rattle.ordering.proofs.settle.Goals as goal
 
-pub returns-then-is_order : goal.returns-then-is_order
-returns-then-is_order c = c.is_order.ensures c.if-is_order.true
-
-pub returns : goal.returns
-returns c =
+pub returns-then-not-is_order : goal.returns-then-not-is_order
+returns-then-not-is_order c =
     let first = c.count_up in
-    own_ordered first.ensures c.count_up-2.ensures
+    let second = c.count_up-then-not-is_order in
+    own_ordered first.ensures second.ensures

@@ -13,13 +13,10 @@ bounds-starts-row c =
 
 pub loop-i-preserved : goal.loop-i-preserved
 loop-i-preserved c =
-    let l = c.loop-i in
-    let a = c.args in (
-      written_more _ (let s = l.invariant.0.stays.sized in omega arith) (ap (λ (n : ℕ). get_or a.starts.now n 0) c.wide-row.ensures.0) l.invariant.0,
-      omega arith,
-    )
+    let w = c.loop-i.invariant in
+    written_more _ (let s = w.stays.sized in omega arith) (ap (λ (n : ℕ). get_or c.args.starts.now n 0) c.wide-row.ensures.0) w
 
 pub returns : goal.returns
 returns c =
     let e : c.loop-i.i ≡ c.args.count = omega arith in
-    rw e at c.loop-i.invariant.0
+    rw e at c.loop-i.invariant
