@@ -8,6 +8,7 @@ use native.Mathlib.Omega.{arith}
 use borrow.Author.Tests.{eq-eqb, ne_eqb}
 use lib.ListN.{length, get_or, take, drop, length-append, length-drop, take-append-drop}
 use lib.Seq.{take_at, drop-drop, get_or-drop, take-append_seam}
+use Rattle.std.proofs.Common.{Some, None}
 use Rattle.literals.specs.Numbering.{judged}
 use Rattle.papers.specs.Program.{Program, all_rules}
 use Rattle.papers.specs.Field.{number_in, numbers, size_of, content_of}
@@ -72,13 +73,13 @@ module _ (bytes : List ℕ) (place : ℕ) where
   literal_numbered s e = let l = length-drop place bytes in omega (arith, s.numbered (tag_there place bytes ∙ e))
 
   -- An 08 field has its number after its heading; another field has none.
-  pub literal_is : get_or bytes place 0 ≡ 0x08 → literal_in (drop place bytes) ≡ number_in bytes (place + 3)
+  pub literal_is : get_or bytes place 0 ≡ 0x08 → literal_in (drop place bytes) ≡ Some (number_in bytes (place + 3))
   unfolding literal_in
   literal_is e =
       let f : place + 4 ≡ place + 3 + 1 = omega arith in
       rw (eq-eqb (get_or (drop place bytes) 0 0) 0x08 (tag_there place bytes ∙ e), get_or-drop place bytes 3 0, get_or-drop place bytes 4 0, f)
 
-  pub literal_none : (get_or bytes place 0 ≡ 0x08 → ⊥) → literal_in (drop place bytes) ≡ 65536
+  pub literal_none : (get_or bytes place 0 ≡ 0x08 → ⊥) → literal_in (drop place bytes) ≡ None
   unfolding literal_in
   literal_none n = rw (ne_eqb (get_or (drop place bytes) 0 0) 0x08 (λ e. n (sym (tag_there place bytes) ∙ e)))
 
@@ -95,10 +96,10 @@ pub opens_stands : {q : ℕ} {bytes : List ℕ} → Opens q bytes → FieldStand
 opens_stands ended = record { tagged = omega arith; numbered = λ e. absurd (omega arith) }
 opens_stands (opened h) = record { tagged = omega arith; numbered = λ e. omega arith }
 
-opens_past : {q : ℕ} {bytes : List ℕ} → Opens q bytes → (o : ℕ) → o < q → o < 65536 → literal_in bytes ≡ o → ⊥
+opens_past : {q : ℕ} {bytes : List ℕ} → Opens q bytes → (o : ℕ) → o < q → literal_in bytes ≡ Some o → ⊥
 unfolding literal_in
-opens_past ended o h k e = omega arith
-opens_past (opened l) o h k e = omega arith
+opens_past ended o h e = cc
+opens_past (opened {o = m} l) o h e = let n : m / 256 * 256 + m % 256 ≡ o = cc in omega arith
 
 module _ (p : Program) (after : List ℕ) where
   opens_entries : (count q : ℕ) → Opens q (encode_fields (entries_from p count q) ++ (encode_field 0x7F [] ++ after))
@@ -135,18 +136,19 @@ module _ (p : Program) (after : List ℕ) where
         (append_assoc (encode_field 0x08 (encode_numbers (o ∷ folds_of p o))) (encode_fields (map (fold_field (all_rules p)) (folds_of p o)))
         (bytes_from p (o + 1) after))
 
-    literal_here : has_entry p o ≡ true → literal_in (bytes_from p o after) ≡ o
+    literal_here : has_entry p o ≡ true → literal_in (bytes_from p o after) ≡ Some o
     unfolding literal_in
-    literal_here e = ap literal_in (bytes_entry e) ∙ (unfold encode_field encode_numbers in (let n : o / 256 * 256 + o % 256 ≡ o = omega arith in n))
+    literal_here e =
+        ap literal_in (bytes_entry e) ∙ (unfold encode_field encode_numbers in (let n : o / 256 * 256 + o % 256 ≡ o = omega arith in ap Some n))
 
     -- The first field tells whether there is one.
-    pub entry_told : o < 65536 → literal_in (bytes_from p o after) ≡ o → has_entry p o ≡ true
-    entry_told few e = go (has_entry p o) refl where
+    pub entry_told : literal_in (bytes_from p o after) ≡ Some o → has_entry p o ≡ true
+    entry_told e = go (has_entry p o) refl where
       go : (b : Bool) → has_entry p o ≡ b → b ≡ true
       go true q = refl
-      go false q = absurd (opens_past (bytes_open (o + 1)) o (omega arith) few (ap literal_in (sym (bytes_none q)) ∙ e))
+      go false q = absurd (opens_past (bytes_open (o + 1)) o (omega arith) (ap literal_in (sym (bytes_none q)) ∙ e))
 
-    pub none_told : (literal_in (bytes_from p o after) ≡ o → ⊥) → has_entry p o ≡ false
+    pub none_told : (literal_in (bytes_from p o after) ≡ Some o → ⊥) → has_entry p o ≡ false
     none_told n = go (has_entry p o) refl where
       go : (b : Bool) → has_entry p o ≡ b → b ≡ false
       go true q = absurd (n (literal_here q))

@@ -6,6 +6,7 @@ use mathlib.Core.List.{List, [], ◌∷◌, ◌++◌, map}
 use Prim.Native.Nat.{ℕ, ◌+◌, ◌*◌, ◌≤◌, ◌<◌}
 use native.Mathlib.Omega.{arith}
 use lib.ListN.{length, drop, set, length-append, length-drop}
+use Rattle.std.proofs.Common.{Some}
 use Rattle.literals.specs.Numbering.{judged}
 use Rattle.papers.specs.Program.{Program, all_rules}
 use Rattle.papers.specs.Field.{size_of}
@@ -32,7 +33,7 @@ module _ (p : Program) (bytes : List ℕ) (o place : ℕ) (s : EntriesAt p bytes
   any_stands = rw s.stands (opens_stands (bytes_open p after o))
 
   -- Where another field stands, there is no entry, and what stands there is the next one's.
-  module _ (n : literal_in (drop place bytes) ≡ o → ⊥) where
+  module _ (n : literal_in (drop place bytes) ≡ Some o → ⊥) where
     none : has_entry p o ≡ false
     none = none_told p after o within (rw s.stands at n)
 
@@ -57,9 +58,9 @@ module _ (p : Program) (bytes : List ℕ) (o place : ℕ) (s : EntriesAt p bytes
         ∙ ap (λ (x : List ℕ). laid at x before) (sym row_bare)
 
   -- Where its own stands, its folds' fields follow.
-  module _ (is : literal_in (drop place bytes) ≡ o) where
+  module _ (is : literal_in (drop place bytes) ≡ Some o) where
     entered : has_entry p o ≡ true
-    entered = entry_told p after o within (let v = s.valid.few_atoms in omega arith) (rw s.stands at is)
+    entered = entry_told p after o within (rw s.stands at is)
 
     abbrev heading : List ℕ
     heading = encode_field 0x08 (encode_numbers (o ∷ folds_of p o))

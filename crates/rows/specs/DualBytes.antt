@@ -1,5 +1,5 @@
 -- What stands in the bytes of a dual. p is a program.
-use Rattle.std.specs.Prelude.{◌≡◌, true, cond, List, [], ◌∷◌, ◌++◌, map, ℕ, ◌+◌, ◌-◌, ◌*◌, ◌≤◌, ◌<◌, eqb, length, get_or, take, drop}
+use Rattle.std.specs.Prelude.{◌≡◌, true, cond, List, [], ◌∷◌, ◌++◌, map, ℕ, ◌+◌, ◌-◌, ◌*◌, ◌≤◌, ◌<◌, eqb, length, get_or, take, drop, Option, Some, None}
 use Rattle.literals.specs.Numbering.{judged}
 use Rattle.papers.specs.Program.{Program, all_rules}
 use Rattle.papers.specs.Valid.{Valid}
@@ -22,9 +22,9 @@ pub record FoldStands (bytes : List ℕ) : Type 0 where
   pub numbered : 2 ≤ size_of bytes
   pub whole : 3 + size_of bytes ≤ length bytes
 
--- The number of the 08 field at the start of these bytes; 65536 where another field stands there.
-unfoldable pub literal_in : List ℕ → ℕ
-literal_in bytes = cond (eqb (get_or bytes 0 0) 0x08) (number_in bytes 3) 65536
+-- The number of the 08 field at the start of these bytes; none where another field stands there.
+unfoldable pub literal_in : List ℕ → Option ℕ
+literal_in bytes = cond (eqb (get_or bytes 0 0) 0x08) (Some (number_in bytes 3)) None
 
 -- A field stands there, and an 08 field with its number.
 pub record FieldStands (bytes : List ℕ) : Type 0 where

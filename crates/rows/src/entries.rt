@@ -1,5 +1,5 @@
 // The dual in its buffer as rows of numbers: they are read from its bytes.
-ghost use Rattle.std.specs.Prelude.{◌≡◌, ◌+◌, ◌*◌, ◌<◌, ◌≤◌, length, drop};
+ghost use Rattle.std.specs.Prelude.{◌≡◌, ◌+◌, ◌*◌, ◌<◌, ◌≤◌, length, drop, Some, Decides};
 ghost use Rattle.literals.specs.Numbering.{judged};
 ghost use Rattle.papers.specs.Field.{size_of};
 ghost use Rattle.papers.specs.Reading.{program_in};
@@ -13,31 +13,30 @@ use copying::copy_numbers;
 use literals::Objective;
 use numbered::{number_at, objective_at};
 
-// The place after the fields that were read, and that after the numbers that were written.
+// How far the dual was read, and its numbers written.
 #[derive(Clone, Copy)]
 struct Reached {
     place: usize,
     at: usize,
 }
 
-// The clause of the 09 field at a place.
-fn decode_fold(dual: &[u8], place: usize, numbers: &mut [u16], at: usize) -> Reached
-    requires { FoldStands (drop place dual.now) × (at + (1 + length (listed_in (drop place dual.now))) ≤ length numbers.old) }
-    ensures { (result.place ≡ place + 3 + size_of (drop place dual.now))
-        × ((result.at ≡ at + (1 + length (listed_in (drop place dual.now))))
-        × (numbers.new ≡ laid at (clause_in (drop place dual.now)) numbers.old)) }
+// The clause of the 09 field that stands there.
+fn decode_fold(dual: &[u8], from: Reached, numbers: &mut [u16]) -> Reached
+    requires { FoldStands (drop from.place dual.now) × (from.at + (1 + length (listed_in (drop from.place dual.now))) ≤ length numbers.old) }
+    ensures { (result.place ≡ from.place + 3 + size_of (drop from.place dual.now))
+        × ((result.at ≡ from.at + (1 + length (listed_in (drop from.place dual.now))))
+        × (numbers.new ≡ laid from.at (clause_in (drop from.place dual.now)) numbers.old)) }
 {
-    let start = place + 5;
-    let next = place + 3 + number_at(dual, place + 1);
-    let listed = &dual[start..next];
+    let start = from.place + 5;
+    let place = from.place + 3 + number_at(dual, from.place + 1);
+    let listed = &dual[start..place];
     let count = listed.len() / 2;
-    let first = at + 1;
-    numbers[at] = (2 * count) as u16;
+    let first = from.at + 1;
+    numbers[from.at] = (2 * count) as u16;
     copy_numbers(listed, numbers, first);
-    let end = first + count;
     Reached {
-        place: next,
-        at: end,
+        place,
+        at: first + count,
     }
 }
 
@@ -46,43 +45,30 @@ fn decode_folds(
     file: &[u8],
     dual: &[u8],
     o: Objective,
-    place: usize,
     folds: usize,
+    from: Reached,
     numbers: &mut [u16],
-    at: usize,
 ) -> Reached
-    requires { FoldsAt (program_in file.now) dual.now o.0 0 place
+    requires { FoldsAt (program_in file.now) dual.now o.0 0 from.place
         × ((folds ≡ length (folds_of (program_in file.now) o.0))
-        × (at + length (clauses_row (clauses_of (program_in file.now) o.0)) ≤ length numbers.old)) }
+        × (from.at + length (clauses_row (clauses_of (program_in file.now) o.0)) ≤ length numbers.old)) }
     ensures { EntriesAt (program_in file.now) dual.now (o.0 + 1) result.place
-        × ((result.at ≡ at + length (clauses_row (clauses_of (program_in file.now) o.0)))
-        × (numbers.new ≡ laid at (clauses_row (clauses_of (program_in file.now) o.0)) numbers.old)) }
+        × ((result.at ≡ from.at + length (clauses_row (clauses_of (program_in file.now) o.0)))
+        × (numbers.new ≡ laid from.at (clauses_row (clauses_of (program_in file.now) o.0)) numbers.old)) }
 {
-    let mut next = place;
-    let mut end = at;
-    let mut i: usize = 0;
-    while i < folds {
-        let reached = decode_fold(dual, next, numbers, end);
-        next = reached.place;
-        end = reached.at;
-        i += 1;
+    let mut reached = from;
+    for _ in 0..folds {
+        reached = decode_fold(dual, reached, numbers);
     }
-    Reached {
-        place: next,
-        at: end,
-    }
+    reached
 }
 
-// The objective literal whose 08 field stands at a place; 65536 where another field stands there.
-fn entry_literal(dual: &[u8], place: usize) -> Objective
+// Whether o's 08 field stands at a place.
+fn is_entered(dual: &[u8], o: Objective, place: usize) -> bool
     requires { FieldStands (drop place dual.now) }
-    ensures { result.0 ≡ literal_in (drop place dual.now) }
+    ensures { Decides result (literal_in (drop place dual.now) ≡ Some o.0) }
 {
-    if dual[place] == 0x08 {
-        objective_at(dual, place + 3)
-    } else {
-        Objective(65536)
-    }
+    dual[place] == 0x08 && objective_at(dual, place + 3).0 == o.0
 }
 
 // The row of o's entry. Without one o has a single clause, which lists nothing.
@@ -90,32 +76,35 @@ fn decode_entry(
     file: &[u8],
     dual: &[u8],
     o: Objective,
-    place: usize,
+    from: Reached,
     numbers: &mut [u16],
-    at: usize,
 ) -> Reached
-    requires { EntriesAt (program_in file.now) dual.now o.0 place
+    requires { EntriesAt (program_in file.now) dual.now o.0 from.place
         × ((o.0 < judged (program_in file.now).atoms)
-        × ((at + length (entry_row (program_in file.now) o.0) ≤ 28000) × (28000 ≤ length numbers.old))) }
+        × ((from.at + length (entry_row (program_in file.now) o.0) ≤ 28000) × (28000 ≤ length numbers.old))) }
     ensures { EntriesAt (program_in file.now) dual.now (o.0 + 1) result.place
-        × ((result.at ≡ at + length (entry_row (program_in file.now) o.0))
-        × (numbers.new ≡ laid at (entry_row (program_in file.now) o.0) numbers.old)) }
+        × ((result.at ≡ from.at + length (entry_row (program_in file.now) o.0))
+        × (numbers.new ≡ laid from.at (entry_row (program_in file.now) o.0) numbers.old)) }
 {
-    let found = entry_literal(dual, place);
+    let Reached { place, at } = from;
     let start = at + 2;
     numbers[at] = o.0 as u16;
-    if found.0 != o.0 {
+    if !is_entered(dual, o, place) {
         numbers[at + 1] = 1;
         numbers[start] = 0;
-        let end = start + 1;
-        return Reached { place, at: end };
+        return Reached {
+            place,
+            at: start + 1,
+        };
     }
     let size = number_at(dual, place + 1);
     let folds = size / 2 - 1;
-    let next = place + 3 + size;
-    let reached = decode_folds(file, dual, o, next, folds, numbers, start);
-    let end = reached.at;
-    numbers[at + 1] = (end - start) as u16;
+    let clauses = Reached {
+        place: place + 3 + size,
+        at: start,
+    };
+    let reached = decode_folds(file, dual, o, folds, clauses, numbers);
+    numbers[at + 1] = (reached.at - start) as u16;
     reached
 }
 
@@ -126,14 +115,9 @@ pub fn decode_dual(file: &[u8], dual: &[u8], count: usize, numbers: &mut [u16], 
     ensures { (numbers.new ≡ filled (joined (entry_rows (program_in file.now))) numbers.old)
         × Starts (entry_rows (program_in file.now)) starts.old starts.new }
 {
-    let mut place: usize = 0;
-    let mut at: usize = 0;
-    let mut i: usize = 0;
-    while i < count {
-        starts[i] = at as u16;
-        let reached = decode_entry(file, dual, Objective(i), place, numbers, at);
-        place = reached.place;
-        at = reached.at;
-        i += 1;
+    let mut reached = Reached { place: 0, at: 0 };
+    for o in 0..count {
+        starts[o] = reached.at as u16;
+        reached = decode_entry(file, dual, Objective(o), reached, numbers);
     }
 }

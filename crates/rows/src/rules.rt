@@ -48,14 +48,10 @@ pub fn decode_rules(
     ensures { (numbers.new ≡ filled (joined (rule_rows (program_in file.now))) numbers.old)
         × Starts (rule_rows (program_in file.now)) starts.old starts.new }
 {
-    let rules = contents.rules;
-    let integrity = contents.integrity;
-    let count = rules.count + integrity.count;
+    let count = contents.rules.count + contents.integrity.count;
     let mut at: usize = 0;
-    let mut i: usize = 0;
-    while i < count {
-        starts[i] = at as u16;
-        at = decode_rule(file, contents, places, Fold(i), numbers, at);
-        i += 1;
+    for fold in 0..count {
+        starts[fold] = at as u16;
+        at = decode_rule(file, contents, places, Fold(fold), numbers, at);
     }
 }

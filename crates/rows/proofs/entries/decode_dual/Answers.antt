@@ -2,9 +2,9 @@
 -- others stand at the place.
 use native.Mathlib.Omega.{arith}
 use mathlib.Core.Path.{◌≡◌, sym, ◌∙◌}
-use mathlib.Core.List.{List}
+use mathlib.Core.List.{List, []}
 use Prim.Native.Nat.{ℕ, ◌+◌, ◌≤◌, ◌<◌}
-use lib.ListN.{length}
+use lib.ListN.{length, get_or}
 use Rattle.literals.specs.Numbering.{judged}
 use Rattle.papers.specs.Program.{Program}
 use Rattle.papers.specs.Reading.{program_in}
@@ -13,7 +13,7 @@ use Rattle.rows.proofs.RowLaws.{entry_rows_count, entry_row_at, entry_rows_bound
 use Rattle.rows.proofs.DecodedLaws.{decoded_none, decoded_room, decoded_more, decoded_all}
 use Rattle.rows.proofs.EntryBytes.{starts_at}
 use Rattle.rows.proofs.entries.decode_dual.Goals as goal
-use Rattle.rows.proofs.entries.decode_dual.Goals.{In-loop-i, Start}
+use Rattle.rows.proofs.entries.decode_dual.Goals.{In-loop-o, Start}
 
 -- ---- what is given
 
@@ -38,73 +38,75 @@ module _ (c : Start) where
 
 -- ---- in a turn of the loop
 
-module _ (c : In-loop-i) where
-  abbrev i : ℕ
-  i = c.loop-i.i
+module _ (c : In-loop-o) where
+  abbrev start : Start
+  start = (goal.at.In-loop-o c).Start
+
+  abbrev p : Program
+  p = program start
 
   abbrev row : List ℕ
-  row = entry_row (program (goal.at.In-loop-i c).Start) i
+  row = entry_row p c.loop-o.o
 
-  below : i < judged (program (goal.at.In-loop-i c).Start).atoms
+  below : c.loop-o.o < judged p.atoms
   below = omega (arith, c.requires.1.0)
 
-  listed : i < length (entry_rows (program (goal.at.In-loop-i c).Start))
-  listed = omega (arith, counted (goal.at.In-loop-i c).Start)
+  listed : c.loop-o.o < length (entry_rows p)
+  listed = omega (arith, counted start)
+
+  row_is : get_or (entry_rows p) c.loop-o.o [] ≡ row
+  row_is = entry_row_at p c.loop-o.o below
 
   -- There is room for the next row.
-  room_here : c.loop-i.at + length row ≤ length (joined (entry_rows (program (goal.at.In-loop-i c).Start)))
+  room_here : c.loop-o.reached.at + length row ≤ length (joined (entry_rows p))
   room_here =
-      decoded_room (entry_rows (program (goal.at.In-loop-i c).Start)) c.args.numbers.now c.args.starts.now (room (goal.at.In-loop-i c).Start) (starts_room (goal.at.In-loop-i c).Start) i c.loop-i.at
-      c.loop-i.numbers c.loop-i.starts c.loop-i.invariant.1.1 listed row (entry_row_at (program (goal.at.In-loop-i c).Start) i below)
+      let l = c.loop-o in
+      decoded_room (entry_rows p) c.args.numbers.now c.args.starts.now (room start) (starts_room start) l.o l.reached.at l.numbers l.starts
+      l.invariant.1 listed row row_is
 
-pub loop-i-init : goal.loop-i-init
-loop-i-init c = (
-  omega arith,
-  (
-    starts_at (program (goal.at.loop-i-init c).Start) c.args.dual.now c.requires.0,
-    decoded_none (entry_rows (program (goal.at.loop-i-init c).Start)) c.args.numbers.now c.args.starts.now (room (goal.at.loop-i-init c).Start) (starts_room (goal.at.loop-i-init c).Start),
-  ),
-)
+pub loop-o-init : goal.loop-o-init
+loop-o-init c =
+    let start = (goal.at.loop-o-init c).Start in
+    let p = program start in (
+      starts_at p c.args.dual.now c.requires.0,
+      decoded_none (entry_rows p) c.args.numbers.now c.args.starts.now (room start) (starts_room start),
+    )
 
 pub overflow_cast-starts : goal.overflow_cast-starts
-overflow_cast-starts c = omega (arith, room_here (goal.at.overflow_cast-starts c).In-loop-i, bound (goal.at.overflow_cast-starts c).Start)
+overflow_cast-starts c =
+    let r = room_here (goal.at.overflow_cast-starts c).In-loop-o in
+    omega (arith, bound (goal.at.overflow_cast-starts c).Start)
 
-pub offset_bounds-starts-i : goal.offset_bounds-starts-i
-offset_bounds-starts-i c = omega (arith, few (goal.at.offset_bounds-starts-i c).Start)
+pub offset_bounds-starts-o : goal.offset_bounds-starts-o
+offset_bounds-starts-o c = omega (arith, few (goal.at.offset_bounds-starts-o c).Start)
 
-pub bounds-starts-i : goal.bounds-starts-i
-bounds-starts-i c = omega (arith, listed (goal.at.bounds-starts-i c).In-loop-i, starts_room (goal.at.bounds-starts-i c).Start, c.loop-i.invariant.1.1.starts_kept)
+pub bounds-starts-o : goal.bounds-starts-o
+bounds-starts-o c =
+    let h = listed (goal.at.bounds-starts-o c).In-loop-o in
+    omega (arith, starts_room (goal.at.bounds-starts-o c).Start, c.loop-o.invariant.1.starts_kept)
 
 pub decode_entry-reached-requires : goal.decode_entry-reached-requires
 decode_entry-reached-requires c =
-    let l = c.loop-i in
-    (l.invariant.1.0, (below (goal.at.decode_entry-reached-requires c).In-loop-i, (omega (arith, room_here (goal.at.decode_entry-reached-requires c).In-loop-i, bound (goal.at.decode_entry-reached-requires c).Start), omega (arith, c.requires.1.1.0, l.invariant.1.1.kept))))
-
-pub overflow_add-i : goal.overflow_add-i
-overflow_add-i c = omega (arith, few (goal.at.overflow_add-i c).Start)
-
-pub loop-i-preserved : goal.loop-i-preserved
-loop-i-preserved c =
-    let l = c.loop-i in
-    let done = c.decode_entry-reached in
-    let a = c.args in (
-      omega arith,
-      (
-        done.ensures.0,
-        decoded_more (entry_rows (program (goal.at.loop-i-preserved c).Start)) a.numbers.now a.starts.now (room (goal.at.loop-i-preserved c).Start) (starts_room (goal.at.loop-i-preserved c).Start) l.i l.at l.numbers l.starts
-            l.invariant.1.1 (listed (goal.at.loop-i-preserved c).In-loop-i) (row (goal.at.loop-i-preserved c).In-loop-i) (entry_row_at (program (goal.at.loop-i-preserved c).Start) (i (goal.at.loop-i-preserved c).In-loop-i) (below (goal.at.loop-i-preserved c).In-loop-i)) done.result.at done.new.numbers
-            done.ensures.1.0 done.ensures.1.1 done.auto.numbers,
-      ),
+    let turn = (goal.at.decode_entry-reached-requires c).In-loop-o in
+    let l = c.loop-o in (
+      l.invariant.0,
+      (below turn, (omega (arith, room_here turn, bound (start turn)), omega (arith, c.requires.1.1.0, l.invariant.1.kept))),
     )
 
-pub shape_of-numbers : goal.shape_of-numbers
-shape_of-numbers c = c.loop-i.invariant.1.1.kept
-
-pub shape_of-starts : goal.shape_of-starts
-shape_of-starts c = c.loop-i.invariant.1.1.starts_kept
+pub loop-o-preserved : goal.loop-o-preserved
+loop-o-preserved c =
+    let turn = (goal.at.loop-o-preserved c).In-loop-o in
+    let l = c.loop-o in
+    let done = c.decode_entry-reached in
+    let a = c.args in (
+      done.ensures.0,
+      decoded_more (entry_rows (p turn)) a.numbers.now a.starts.now (room (start turn)) (starts_room (start turn)) l.o l.reached.at l.numbers l.starts
+          l.invariant.1 (listed turn) (row turn) (row_is turn) done.result.at done.new.numbers done.ensures.1.0 done.ensures.1.1 done.auto.numbers,
+    )
 
 pub returns : goal.returns
 returns c =
-    let l = c.loop-i in
-    decoded_all (entry_rows (program (goal.at.returns c).Start)) c.args.numbers.now c.args.starts.now (room (goal.at.returns c).Start) (starts_room (goal.at.returns c).Start) l.i l.at l.numbers l.starts
-    l.invariant.1.1 (omega (arith, counted (goal.at.returns c).Start))
+    let start = (goal.at.returns c).Start in
+    let l = c.loop-o in
+    decoded_all (entry_rows (program start)) c.args.numbers.now c.args.starts.now (room start) (starts_room start) l.o l.reached.at l.numbers l.starts
+    l.invariant.1 (omega (arith, counted start))

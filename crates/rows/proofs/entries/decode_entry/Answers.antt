@@ -1,7 +1,9 @@
 -- `rows::entries::decode_entry` meets its contract: the first field tells whether o has an entry.
 use native.Mathlib.Omega.{arith}
 use mathlib.Core.Path.{◌≡◌, sym, ◌∙◌}
+use mathlib.Core.Bool.{false≢true}
 use mathlib.Core.List.{List}
+use Rattle.std.proofs.Common.{Some}
 use Prim.Native.Nat.{ℕ, ◌+◌, ◌-◌, ◌*◌, ◌≤◌, ◌<◌}
 use lib.ListN.{length, drop, set, length-set}
 use Rattle.literals.specs.Numbering.{judged}
@@ -15,7 +17,7 @@ use Rattle.rows.specs.DualBytes.{literal_in, EntriesAt}
 use Rattle.rows.proofs.RowLaws.{entry_row_length}
 use Rattle.rows.proofs.EntryRows.{any_stands, any_next, any_size, any_whole, any_folds, bare_length, bare_laid, entry_laid}
 use Rattle.rows.proofs.entries.decode_entry.Goals as goal
-use Rattle.rows.proofs.entries.decode_entry.Goals.{After-number_at-size, After-slice_known-2-1, Else-found-o, Start, Then-found-o}
+use Rattle.rows.proofs.entries.decode_entry.Goals.{After-number_at-size, After-slice_known-2-1, Else-not-is_entered, Start, Then-not-is_entered}
 
 -- ---- what is given
 
@@ -30,10 +32,10 @@ module _ (c : Start) where
   o = c.args.o.0
 
   abbrev place : ℕ
-  place = c.args.place
+  place = c.args.from.place
 
   abbrev at : ℕ
-  at = c.args.at
+  at = c.args.from.at
 
   abbrev numbers : List ℕ
   numbers = c.args.numbers.now
@@ -57,102 +59,155 @@ module _ (c : Start) where
 
 -- ---- where another field stands
 
-module _ (c : Then-found-o) where
-  isnt : literal_in (drop (place (goal.at.Then-found-o c).Start) (bytes (goal.at.Then-found-o c).Start)) ≡ o (goal.at.Then-found-o c).Start → ⊥
-  isnt e = c.if-found-o.true (c.entry_literal-found.ensures ∙ e)
+module _ (c : Then-not-is_entered) where
+  abbrev bare_start : Start
+  bare_start = (goal.at.Then-not-is_entered c).Start
 
-  bare : length (entry_row (program (goal.at.Then-found-o c).Start) (o (goal.at.Then-found-o c).Start)) ≡ 3
-  bare = bare_length (program (goal.at.Then-found-o c).Start) (bytes (goal.at.Then-found-o c).Start) (o (goal.at.Then-found-o c).Start) (place (goal.at.Then-found-o c).Start) (stands (goal.at.Then-found-o c).Start) (within (goal.at.Then-found-o c).Start) isnt
+  isnt : literal_in (drop c.args.from.place c.args.dual.now) ≡ Some c.args.o.0 → ⊥
+  isnt e = false≢true (sym c.if-not-is_entered.true ∙ c.is_entered.ensures.1 e)
+
+  bare : length (entry_row (program bare_start) c.args.o.0) ≡ 3
+  bare = bare_length (program bare_start) c.args.dual.now c.args.o.0 c.args.from.place (stands bare_start) (within bare_start) isnt
 
 -- ---- where the field is o's own
 
-module _ (c : Else-found-o) where
-  is : literal_in (drop (place (goal.at.Else-found-o c).Start) (bytes (goal.at.Else-found-o c).Start)) ≡ o (goal.at.Else-found-o c).Start
-  is = sym c.entry_literal-found.ensures ∙ c.if-found-o.false
+module _ (c : Else-not-is_entered) where
+  abbrev own_start : Start
+  own_start = (goal.at.Else-not-is_entered c).Start
+
+  is : literal_in (drop c.args.from.place c.args.dual.now) ≡ Some c.args.o.0
+  is = c.is_entered.ensures.0 c.if-not-is_entered.false
 
   -- it stands whole,
-  whole : place (goal.at.Else-found-o c).Start + 5 + 2 * length (folds_of (program (goal.at.Else-found-o c).Start) (o (goal.at.Else-found-o c).Start)) ≤ length (bytes (goal.at.Else-found-o c).Start)
-  whole = any_whole (program (goal.at.Else-found-o c).Start) (bytes (goal.at.Else-found-o c).Start) (o (goal.at.Else-found-o c).Start) (place (goal.at.Else-found-o c).Start) (stands (goal.at.Else-found-o c).Start) (within (goal.at.Else-found-o c).Start) is
+  whole : c.args.from.place + 5 + 2 * length (folds_of (program own_start) c.args.o.0) ≤ length c.args.dual.now
+  whole = any_whole (program own_start) c.args.dual.now c.args.o.0 c.args.from.place (stands own_start) (within own_start) is
 
 -- and has a number for each fold.
 module _ (c : After-number_at-size) where
-  read : c.number_at-size.result ≡ size_of (drop (place (goal.at.After-number_at-size c).Start) (bytes (goal.at.After-number_at-size c).Start))
-  read = c.number_at-size.ensures.0 ∙ sym (size_there (place (goal.at.After-number_at-size c).Start) (bytes (goal.at.After-number_at-size c).Start))
+  abbrev sized_start : Start
+  sized_start = (goal.at.After-number_at-size c).Start
 
-  counted : c.number_at-size.result ≡ 2 + 2 * length (folds_of (program (goal.at.After-number_at-size c).Start) (o (goal.at.After-number_at-size c).Start))
-  counted = read ∙ any_size (program (goal.at.After-number_at-size c).Start) (bytes (goal.at.After-number_at-size c).Start) (o (goal.at.After-number_at-size c).Start) (place (goal.at.After-number_at-size c).Start) (stands (goal.at.After-number_at-size c).Start) (within (goal.at.After-number_at-size c).Start) (is (goal.at.After-number_at-size c).Else-found-o)
+  read : c.number_at-size.result ≡ size_of (drop c.args.from.place c.args.dual.now)
+  read = c.number_at-size.ensures.0 ∙ sym (size_there c.args.from.place c.args.dual.now)
+
+  counted : c.number_at-size.result ≡ 2 + 2 * length (folds_of (program sized_start) c.args.o.0)
+  counted =
+      let s = sized_start in
+      let own = is (goal.at.After-number_at-size c).Else-not-is_entered in
+      read ∙ any_size (program s) c.args.dual.now c.args.o.0 c.args.from.place (stands s) (within s) own
 
 -- ---- where its clauses are written
 
 module _ (c : After-slice_known-2-1) where
+  abbrev written_start : Start
+  written_start = (goal.at.After-slice_known-2-1 c).Start
+
   abbrev written : List ℕ
   written = c.decode_folds-reached.new.numbers
 
-  written_kept : length written ≡ length (numbers (goal.at.After-slice_known-2-1 c).Start)
-  written_kept = c.decode_folds-reached.auto.numbers ∙ kept (goal.at.After-slice_known-2-1 c).Start
+  written_kept : length written ≡ length c.args.numbers.now
+  written_kept = c.decode_folds-reached.auto.numbers ∙ kept written_start
 
-  size : c.decode_folds-reached.result.at - (at (goal.at.After-slice_known-2-1 c).Start + 2) ≡ length (clauses_row (clauses_of (program (goal.at.After-slice_known-2-1 c).Start) (o (goal.at.After-slice_known-2-1 c).Start)))
+  size : c.decode_folds-reached.result.at - (c.args.from.at + 2) ≡ length (clauses_row (clauses_of (program written_start) c.args.o.0))
   size = omega (arith, c.decode_folds-reached.ensures.1.0)
 
-pub entry_literal-found-requires : goal.entry_literal-found-requires
-entry_literal-found-requires c =
-    any_stands (program (goal.at.entry_literal-found-requires c).Start) (bytes (goal.at.entry_literal-found-requires c).Start) (o (goal.at.entry_literal-found-requires c).Start) (place (goal.at.entry_literal-found-requires c).Start) (stands (goal.at.entry_literal-found-requires c).Start) (within (goal.at.entry_literal-found-requires c).Start)
+pub is_entered-requires : goal.is_entered-requires
+is_entered-requires c =
+    let s = (goal.at.is_entered-requires c).Start in
+    any_stands (program s) c.args.dual.now c.args.o.0 c.args.from.place (stands s) (within s)
 
 pub bounds-numbers-at : goal.bounds-numbers-at
-bounds-numbers-at c = omega (arith, room (goal.at.bounds-numbers-at c).Start, sized (goal.at.bounds-numbers-at c).Start)
+bounds-numbers-at c =
+    let s = (goal.at.bounds-numbers-at c).Start in
+    omega (arith, room s, sized s)
 
-pub bounds-numbers-at-then-found-o : goal.bounds-numbers-at-then-found-o
-bounds-numbers-at-then-found-o c = omega (arith, room (goal.at.bounds-numbers-at-then-found-o c).Start, bare (goal.at.bounds-numbers-at-then-found-o c).Then-found-o, kept (goal.at.bounds-numbers-at-then-found-o c).Start)
+pub bounds-numbers-at-then-not-is_entered : goal.bounds-numbers-at-then-not-is_entered
+bounds-numbers-at-then-not-is_entered c =
+    let s = (goal.at.bounds-numbers-at-then-not-is_entered c).Start in
+    let bare_at = (goal.at.bounds-numbers-at-then-not-is_entered c).Then-not-is_entered in
+    omega (arith, room s, bare bare_at, kept s)
 
 pub bounds-numbers-start : goal.bounds-numbers-start
-bounds-numbers-start c = simp length-set (omega (arith, room (goal.at.bounds-numbers-start c).Start, bare (goal.at.bounds-numbers-start c).Then-found-o))
+bounds-numbers-start c =
+    let s = (goal.at.bounds-numbers-start c).Start in
+    let bare_at = (goal.at.bounds-numbers-start c).Then-not-is_entered in
+    simp length-set (omega (arith, room s, bare bare_at))
 
-pub returns-then-found-o : goal.returns-then-found-o
-returns-then-found-o c = (
-  any_next (program (goal.at.returns-then-found-o c).Start) (bytes (goal.at.returns-then-found-o c).Start) (o (goal.at.returns-then-found-o c).Start) (place (goal.at.returns-then-found-o c).Start) (stands (goal.at.returns-then-found-o c).Start) (within (goal.at.returns-then-found-o c).Start) (isnt (goal.at.returns-then-found-o c).Then-found-o),
-  (
-    omega (arith, bare (goal.at.returns-then-found-o c).Then-found-o),
-    bare_laid (program (goal.at.returns-then-found-o c).Start) (bytes (goal.at.returns-then-found-o c).Start) (o (goal.at.returns-then-found-o c).Start) (place (goal.at.returns-then-found-o c).Start) (stands (goal.at.returns-then-found-o c).Start) (within (goal.at.returns-then-found-o c).Start) (isnt (goal.at.returns-then-found-o c).Then-found-o) (at (goal.at.returns-then-found-o c).Start) (numbers (goal.at.returns-then-found-o c).Start) (room (goal.at.returns-then-found-o c).Start),
-  ),
-)
+pub returns-then-not-is_entered : goal.returns-then-not-is_entered
+returns-then-not-is_entered c =
+    let s = (goal.at.returns-then-not-is_entered c).Start in
+    let bare_at = (goal.at.returns-then-not-is_entered c).Then-not-is_entered in (
+      any_next (program s) c.args.dual.now c.args.o.0 c.args.from.place (stands s) (within s) (isnt bare_at),
+      (
+        omega (arith, bare bare_at),
+        bare_laid (program s) c.args.dual.now c.args.o.0 c.args.from.place (stands s) (within s) (isnt bare_at)
+            c.args.from.at c.args.numbers.now (room s),
+      ),
+    )
 
 pub overflow_add-place : goal.overflow_add-place
-overflow_add-place c = omega (arith, whole (goal.at.overflow_add-place c).Else-found-o)
+overflow_add-place c =
+    let own = (goal.at.overflow_add-place c).Else-not-is_entered in
+    omega (arith, whole own)
 
 pub number_at-size-requires : goal.number_at-size-requires
-number_at-size-requires c = omega (arith, whole (goal.at.number_at-size-requires c).Else-found-o)
+number_at-size-requires c =
+    let own = (goal.at.number_at-size-requires c).Else-not-is_entered in
+    omega (arith, whole own)
 
 pub overflow_sub-folds : goal.overflow_sub-folds
-overflow_sub-folds c = omega (arith, counted (goal.at.overflow_sub-folds c).After-number_at-size)
+overflow_sub-folds c =
+    let at_size = (goal.at.overflow_sub-folds c).After-number_at-size in
+    omega (arith, counted at_size)
 
-pub overflow_add-next : goal.overflow_add-next
-overflow_add-next c = omega (arith, whole (goal.at.overflow_add-next c).Else-found-o)
+pub overflow_add-clauses : goal.overflow_add-clauses
+overflow_add-clauses c =
+    let own = (goal.at.overflow_add-clauses c).Else-not-is_entered in
+    omega (arith, whole own)
 
-pub overflow_add-next-2 : goal.overflow_add-next-2
-overflow_add-next-2 c = omega (arith, whole (goal.at.overflow_add-next-2 c).Else-found-o, counted (goal.at.overflow_add-next-2 c).After-number_at-size)
+pub overflow_add-clauses-2 : goal.overflow_add-clauses-2
+overflow_add-clauses-2 c =
+    let own = (goal.at.overflow_add-clauses-2 c).Else-not-is_entered in
+    let at_size = (goal.at.overflow_add-clauses-2 c).After-number_at-size in
+    omega (arith, whole own, counted at_size)
 
 pub decode_folds-reached-requires : goal.decode_folds-reached-requires
 decode_folds-reached-requires c =
-    let z = read (goal.at.decode_folds-reached-requires c).After-number_at-size in (
-      any_folds (program (goal.at.decode_folds-reached-requires c).Start) (bytes (goal.at.decode_folds-reached-requires c).Start) (o (goal.at.decode_folds-reached-requires c).Start) (place (goal.at.decode_folds-reached-requires c).Start) (stands (goal.at.decode_folds-reached-requires c).Start) (within (goal.at.decode_folds-reached-requires c).Start) (is (goal.at.decode_folds-reached-requires c).Else-found-o) (place (goal.at.decode_folds-reached-requires c).Start + 3 + c.number_at-size.result) (omega arith),
-      (omega (arith, counted (goal.at.decode_folds-reached-requires c).After-number_at-size), omega (arith, room (goal.at.decode_folds-reached-requires c).Start, sized (goal.at.decode_folds-reached-requires c).Start, kept (goal.at.decode_folds-reached-requires c).Start)),
+    let at_size = (goal.at.decode_folds-reached-requires c).After-number_at-size in
+    let s = (goal.at.decode_folds-reached-requires c).Start in
+    let own = (goal.at.decode_folds-reached-requires c).Else-not-is_entered in
+    let z = read at_size in (
+      any_folds (program s) c.args.dual.now c.args.o.0 c.args.from.place (stands s) (within s) (is own)
+          (c.args.from.place + 3 + c.number_at-size.result) (omega arith),
+      (omega (arith, counted at_size), omega (arith, room s, sized s, kept s)),
     )
 
 pub overflow_cast-numbers-2 : goal.overflow_cast-numbers-2
-overflow_cast-numbers-2 c = omega (arith, size (goal.at.overflow_cast-numbers-2 c).After-slice_known-2-1, sized (goal.at.overflow_cast-numbers-2 c).Start, c.requires.1.1.0)
+overflow_cast-numbers-2 c =
+    let at_end = (goal.at.overflow_cast-numbers-2 c).After-slice_known-2-1 in
+    let s = (goal.at.overflow_cast-numbers-2 c).Start in
+    omega (arith, size at_end, sized s, c.requires.1.1.0)
 
 pub bounds-numbers-at-2 : goal.bounds-numbers-at-2
-bounds-numbers-at-2 c = omega (arith, room (goal.at.bounds-numbers-at-2 c).Start, sized (goal.at.bounds-numbers-at-2 c).Start, written_kept (goal.at.bounds-numbers-at-2 c).After-slice_known-2-1)
+bounds-numbers-at-2 c =
+    let s = (goal.at.bounds-numbers-at-2 c).Start in
+    let at_end = (goal.at.bounds-numbers-at-2 c).After-slice_known-2-1 in
+    omega (arith, room s, sized s, written_kept at_end)
 
 pub shape_of-numbers : goal.shape_of-numbers
-shape_of-numbers c = simp length-set (written_kept (goal.at.shape_of-numbers c).After-slice_known-2-1)
+shape_of-numbers c =
+    let at_end = (goal.at.shape_of-numbers c).After-slice_known-2-1 in
+    simp length-set (written_kept at_end)
 
 pub returns : goal.returns
 returns c =
+    let s = (goal.at.returns c).Start in
+    let at_end = (goal.at.returns c).After-slice_known-2-1 in
     let r = c.decode_folds-reached in (
       r.ensures.0,
       (
-        omega (arith, r.ensures.1.0, sized (goal.at.returns c).Start),
-        entry_laid (program (goal.at.returns c).Start) (o (goal.at.returns c).Start) (at (goal.at.returns c).Start) (r.result.at - (at (goal.at.returns c).Start + 2)) (numbers (goal.at.returns c).Start) (written (goal.at.returns c).After-slice_known-2-1) (size (goal.at.returns c).After-slice_known-2-1) (room (goal.at.returns c).Start) r.ensures.1.1,
+        omega (arith, r.ensures.1.0, sized s),
+        entry_laid (program s) c.args.o.0 c.args.from.at (r.result.at - (c.args.from.at + 2)) c.args.numbers.now
+            (written at_end) (size at_end) (room s) r.ensures.1.1,
       ),
     )

@@ -1,8 +1,8 @@
--- `rows::entries::decode_folds` meets its contract. The loop's invariant: the clauses of the first i folds are written, and the others' fields stand at
+-- `rows::entries::decode_folds` meets its contract. The loop's invariant: the clauses of the first folds are written, and the others' fields stand at
 -- the place, for whichever objective literal has these folds there.
 use mathlib.Core.Path.{◌≡◌}
 use mathlib.Core.List.{List}
-use Prim.Native.Nat.{ℕ, ◌+◌, ◌-◌, ◌≤◌}
+use Prim.Native.Nat.{ℕ, ◌+◌, ◌≤◌}
 use lib.ListN.{length}
 use Rattle.papers.specs.Program.{Program}
 use Rattle.papers.specs.Reading.{program_in}
@@ -18,11 +18,8 @@ pub record Given (p : Program) (bytes : List ℕ) (o place folds at : ℕ) (numb
   pub counted : folds ≡ length (folds_of p o)
   pub room : at + length (clauses_row (clauses_of p o)) ≤ length numbers
 
-abbrev pub invariant-loop-i : goal.invariant-loop-i
-invariant-loop-i l =
-    (l.i ≤ l.folds)
-    × ((length l.numbers ≡ length l.initial.numbers)
-    × ((o : ℕ) → Given (program_in l.file) l.dual o l.place l.folds l.at l.initial.numbers → FoldsTo (program_in l.file) l.dual o l.at l.initial.numbers l.i l.next l.end l.numbers))
-
-abbrev pub decreases-loop-i : goal.decreases-loop-i
-decreases-loop-i l = l.folds - l.i
+abbrev pub invariant-loop : goal.invariant-loop
+invariant-loop l =
+    (o : ℕ)
+    → Given (program_in l.file) l.dual o l.fn.from.place l.folds l.fn.from.at l.initial.numbers
+    → FoldsTo (program_in l.file) l.dual o l.fn.from.at l.initial.numbers l.counter l.reached.place l.reached.at l.numbers

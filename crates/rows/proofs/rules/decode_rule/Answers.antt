@@ -38,34 +38,42 @@ module _ (c : After-body_of-body) where
       omega (arith, c.body_of-body.ensures.size)
 
 pub bounds-numbers-at : goal.bounds-numbers-at
-bounds-numbers-at c = omega (arith, room (goal.at.bounds-numbers-at c).After-body_of-body)
+bounds-numbers-at c =
+    let at_body_of_body = (goal.at.bounds-numbers-at c).After-body_of-body in
+    omega (arith, room at_body_of_body)
 
 pub overflow_cast-numbers-2 : goal.overflow_cast-numbers-2
-overflow_cast-numbers-2 c = omega (arith, few (goal.at.overflow_cast-numbers-2 c).After-body_of-body)
+overflow_cast-numbers-2 c =
+    let at_body_of_body = (goal.at.overflow_cast-numbers-2 c).After-body_of-body in
+    omega (arith, few at_body_of_body)
 
 pub bounds-numbers-at-2 : goal.bounds-numbers-at-2
 bounds-numbers-at-2 c =
+    let at_body_of_body = (goal.at.bounds-numbers-at-2 c).After-body_of-body in
     let a = c.args in
     let l = length-set a.numbers.now a.at c.head_of-head.result.0 in
-    omega (arith, room (goal.at.bounds-numbers-at-2 c).After-body_of-body)
+    omega (arith, room at_body_of_body)
 
 pub copy_numbers-requires : goal.copy_numbers-requires
 copy_numbers-requires c =
-    let k = kept (goal.at.copy_numbers-requires c).After-body_of-body c.head_of-head.result.0 (length (body (goal.at.copy_numbers-requires c).After-body_of-body) / 2) in
-    let n = body_counted (rule (goal.at.copy_numbers-requires c).After-body_of-body) (body (goal.at.copy_numbers-requires c).After-body_of-body) c.body_of-body.ensures in
-    omega (arith, room (goal.at.copy_numbers-requires c).After-body_of-body)
+    let at_body_of_body = (goal.at.copy_numbers-requires c).After-body_of-body in
+    let k = kept at_body_of_body c.head_of-head.result.0 (length (body at_body_of_body) / 2) in
+    let n = body_counted (rule at_body_of_body) (body at_body_of_body) c.body_of-body.ensures in
+    omega (arith, room at_body_of_body)
 
 pub shape_of-numbers : goal.shape_of-numbers
 shape_of-numbers c =
-    c.copy_numbers.auto.values ∙ kept (goal.at.shape_of-numbers c).After-body_of-body c.head_of-head.result.0 (length (body (goal.at.shape_of-numbers c).After-body_of-body) / 2)
+    let at_body_of_body = (goal.at.shape_of-numbers c).After-body_of-body in
+    c.copy_numbers.auto.values ∙ kept at_body_of_body c.head_of-head.result.0 (length (body at_body_of_body) / 2)
 
 pub returns : goal.returns
 returns c =
+    let at_body_of_body = (goal.at.returns c).After-body_of-body in
     let a = c.args in
-    let n = body_counted (rule (goal.at.returns c).After-body_of-body) (body (goal.at.returns c).After-body_of-body) c.body_of-body.ensures in
-    let l = rule_row_length (rule (goal.at.returns c).After-body_of-body) in (
+    let n = body_counted (rule at_body_of_body) (body at_body_of_body) c.body_of-body.ensures in
+    let l = rule_row_length (rule at_body_of_body) in (
       omega (arith, c.body_of-body.ensures.size),
       c.copy_numbers.ensures
-          ∙ rule_laid (rule (goal.at.returns c).After-body_of-body) (body (goal.at.returns c).After-body_of-body) c.body_of-body.ensures a.at c.head_of-head.result.0 a.numbers.now c.head_of-head.ensures.0
+          ∙ rule_laid (rule at_body_of_body) (body at_body_of_body) c.body_of-body.ensures a.at c.head_of-head.result.0 a.numbers.now c.head_of-head.ensures.0
           c.requires.1.1,
     )
