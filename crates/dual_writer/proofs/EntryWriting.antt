@@ -6,6 +6,8 @@ use Prim.Native.Nat.{ℕ, ◌+◌, ◌*◌, ◌≤◌, ◌<◌}
 use native.Mathlib.Omega.{arith}
 use lib.ListN.{length, get_or, take, drop, length-append, length-map}
 use lib.Seq.{length-take-le}
+use Rattle.std.proofs.Common.{Option, Some, None}
+use Rattle.literals.specs.declared.Fold.{Fold}
 use Rattle.literals.specs.BodyLiterals.{conjugate_number}
 use Rattle.papers.specs.Program.{Rule, Program, all_rules, no_rule}
 use Rattle.papers.specs.Encoding.{encode_numbers, encode_field}
@@ -14,7 +16,7 @@ use Rattle.papers.proofs.Lists.{first_of}
 use Rattle.dual.specs.Table.{literal, folds_of, fold_field, entry}
 use Rattle.dual.specs.Table as table
 use Rattle.dual.specs.TableEncoding.{encode_fields}
-use Rattle.dual_writer.specs.Chains.{Chain, folds_at, ChainsOf}
+use Rattle.dual_writer.specs.Chains.{number_from, Chain, folds_at, ChainsOf}
 use Rattle.dual.specs.Bytes.{filled}
 use Rattle.dual.proofs.AllEntries.{fold_bytes, entry_is}
 use Rattle.dual.proofs.Folds.{FoldIn, folds_of_tell}
@@ -44,20 +46,22 @@ module _ (rules : List Rule) where
   fold_more a k = folds_append a (k ∷ []) ∙ ap (λ (x : List ℕ). fold_bytes rules a ++ x) (fold_cons k [] ∙ append-nil (one_fold rules k))
 
 -- The chain of an objective literal has its folds.
-pub folds_there : (p : Program) (first next : List ℕ) (o : ℕ) → ChainsOf p first next → o < 513 → folds_at next (get_or first o 0) ≡ folds_of p o
-folds_there p first next o c h = followed_is 1280 (get_or first o 0) (omega arith) (c.at o h)
+pub folds_there : (p : Program) (first next : List (Option Fold)) (o : ℕ) → ChainsOf p first next → o < 513
+    → folds_at next (get_or first o None) ≡ folds_of p o
+folds_there p first next o c h = followed_is 1280 (get_or first o None) (omega arith) (c.at o h)
 
 -- ---- the loop
 
 -- The folds behind are written after the first `base` bytes.
-pub record Entered (p : Program) (next : List ℕ) (o base : ℕ) (start buffer : List ℕ) (fold end : ℕ) : Type 0 where
+pub record Entered (p : Program) (next : List (Option Fold)) (o base : ℕ) (start buffer : List ℕ) (fold : Option Fold) (end : ℕ) : Type 0 where
   pub count : ℕ
   pub follows : Following next (folds_of p o) fold count
   pub folds : All (FoldIn (all_rules p) o) follows.ahead
   pub ends : end ≡ base + length (fold_bytes (all_rules p) follows.done)
   pub written : buffer ≡ filled (take base start ++ fold_bytes (all_rules p) follows.done) start
 
-pub entered_none : (p : Program) (next : List ℕ) (o base : ℕ) (start : List ℕ) (fold : ℕ) → base ≤ length start → Chain next fold (folds_of p o)
+pub entered_none : (p : Program) (next : List (Option Fold)) (o base : ℕ) (start : List ℕ) (fold : Option Fold)
+    → base ≤ length start → Chain next fold (folds_of p o)
     → Entered p next o base start start fold base
 unfolding following_starts encode_fields
 entered_none p next o base start fold h c = record {
@@ -68,8 +72,8 @@ entered_none p next o base start fold h c = record {
   written = sym (filled_whole base start h);
 }
 
-module _ (p : Program) (next : List ℕ) (o base : ℕ) (start buffer : List ℕ) (fold end : ℕ) (w : Entered p next o base start buffer fold end)
-    (fits : base + length (fold_bytes (all_rules p) (folds_of p o)) ≤ length start) where
+module _ (p : Program) (next : List (Option Fold)) (o base : ℕ) (start buffer : List ℕ) (tip : Option Fold) (end : ℕ)
+    (w : Entered p next o base start buffer tip end) (fits : base + length (fold_bytes (all_rules p) (folds_of p o)) ≤ length start) where
   -- The bytes of some folds.
   abbrev bytes_of : List ℕ → List ℕ
   bytes_of = fold_bytes (all_rules p)
@@ -80,50 +84,54 @@ module _ (p : Program) (next : List ℕ) (o base : ℕ) (start buffer : List ℕ
       let a = length-append (take base start) (bytes_of w.follows.done) in
       omega (arith, w.ends)
 
-  pub entered_done : 1280 ≤ fold → (end ≡ base + length (bytes_of (folds_of p o))) × (buffer ≡ filled (take base start ++ bytes_of (folds_of p o)) start)
+  pub entered_done : tip ≡ None → (end ≡ base + length (bytes_of (folds_of p o))) × (buffer ≡ filled (take base start ++ bytes_of (folds_of p o)) start)
   entered_done h =
-      let d = following_done next (folds_of p o) fold w.count w.follows h in
+      let d = following_done next (folds_of p o) tip w.count w.follows h in
       (rw d.0 at w.ends, rw d.0 at w.written)
 
-  module _ (here : fold < 1280) where
+  module _ (fold : Fold) (some : tip ≡ Some fold) where
     abbrev linked : Link next fold w.follows.ahead
-    linked = following_link next (folds_of p o) fold w.count w.follows here
+    linked = following_link next (folds_of p o) tip w.count w.follows fold some
 
-    ahead : FoldIn (all_rules p) o fold × All (FoldIn (all_rules p) o) linked.more
+    ahead : FoldIn (all_rules p) o fold.0 × All (FoldIn (all_rules p) o) linked.more
     ahead = first_of (subst (All (FoldIn (all_rules p) o)) linked.is w.folds)
 
-    pub entered_fold : FoldIn (all_rules p) o fold
+    pub entered_fold : FoldIn (all_rules p) o fold.0
     entered_fold = ahead.0
 
-    pub entered_rises : fold < get_or next fold 0
+    pub entered_few : fold.0 < 1280
+    entered_few = linked.few
+
+    pub entered_rises : fold.0 < number_from (get_or next fold.0 None)
     entered_rises = linked.rises
 
     -- There is room for this fold's field.
-    pub entered_room : end + length (one_fold (all_rules p) fold) ≤ length start
+    pub entered_room : end + length (one_fold (all_rules p) fold.0) ≤ length start
     entered_room =
         let s = ap (λ (l : List ℕ). length (bytes_of l)) w.follows.split in
         let a = ap length (folds_append (all_rules p) w.follows.done w.follows.ahead) in
         let b = length-append (bytes_of w.follows.done) (bytes_of w.follows.ahead) in
         let c = ap (λ (l : List ℕ). length (bytes_of l)) linked.is in
-        let d = ap length (fold_cons (all_rules p) fold linked.more) in
-        let e = length-append (one_fold (all_rules p) fold) (bytes_of linked.more) in
+        let d = ap length (fold_cons (all_rules p) fold.0 linked.more) in
+        let e = length-append (one_fold (all_rules p) fold.0) (bytes_of linked.more) in
         omega (arith, w.ends)
 
     -- The part from `end` on is filled with it.
-    pub entered_next : (part : List ℕ) (size : ℕ) → part ≡ filled (one_fold (all_rules p) fold) (drop end buffer) → size ≡ length (one_fold (all_rules p) fold)
-        → Entered p next o base start (take end buffer ++ part) (get_or next fold 0) (end + size)
+    pub entered_next : (part : List ℕ) (size : ℕ) → part ≡ filled (one_fold (all_rules p) fold.0) (drop end buffer)
+        → size ≡ length (one_fold (all_rules p) fold.0)
+        → Entered p next o base start (take end buffer ++ part) (get_or next fold.0 None) (end + size)
     unfolding following_next
     entered_next part size q s =
         let behind = bytes_of w.follows.done in
-        let one = one_fold (all_rules p) fold in
+        let one = one_fold (all_rules p) fold.0 in
         let bytes = take base start ++ behind in
-        let m : bytes_of (w.follows.done ++ fold ∷ []) ≡ behind ++ one = fold_more (all_rules p) w.follows.done fold in
+        let m : bytes_of (w.follows.done ++ fold.0 ∷ []) ≡ behind ++ one = fold_more (all_rules p) w.follows.done fold.0 in
         let n = ap length m in
         let a = length-append behind one in
         let joined = append_assoc (take base start) behind one ∙ ap (λ (x : List ℕ). take base start ++ x) (sym m) in
         record {
           count = w.count + 1;
-          follows = following_next next (folds_of p o) fold w.count w.follows here;
+          follows = following_next next (folds_of p o) tip w.count w.follows fold some;
           folds = ahead.1;
           ends = omega (arith, w.ends);
           written =

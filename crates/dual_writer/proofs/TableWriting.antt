@@ -8,7 +8,7 @@ use native.Mathlib.Omega.{arith}
 use borrow.Author.Tests.{le-leb, lt-leb}
 use lib.Dec.{leb}
 use lib.ListN.{length, take, drop, length-append}
-use Rattle.std.proofs.Common.{Ok, Err}
+use Rattle.std.proofs.Common.{Option, Some, None, Ok, Err}
 use Rattle.literals.specs.Numbering.{judged}
 use Rattle.papers.specs.Program.{Program, all_rules}
 use Rattle.papers.specs.Outcome.{accepted}
@@ -29,18 +29,18 @@ use Rattle.dual.proofs.FilledLaws.{filled_part}
 -- ---- one objective literal
 
 -- The length tells whether there is an entry.
-module _ (p : Program) (o : ℕ) {size : ℕ} (is : size ≡ cond (has_entry p o) (5 + rules_length (all_rules p) o) 0) where
-  pub no_entry : size ≡ 0 → entry_if_any p o ≡ []
-  no_entry z = go (has_entry p o) refl (sym is ∙ z) where
-    go : (b : Bool) → has_entry p o ≡ b → cond b (5 + rules_length (all_rules p) o) 0 ≡ 0 → cond b (entry p o) [] ≡ []
-    go true e h = absurd (omega arith)
-    go false e h = refl
+module _ (p : Program) (o : ℕ) {size : Option ℕ} (is : size ≡ cond (has_entry p o) (Some (5 + rules_length (all_rules p) o)) None) where
+  pub no_entry : size ≡ None → entry_if_any p o ≡ []
+  no_entry z = go (has_entry p o) (sym is ∙ z) where
+    go : (b : Bool) → cond b (Some (5 + rules_length (all_rules p) o)) None ≡ None → cond b (entry p o) [] ≡ []
+    go true h = cc
+    go false h = refl
 
-  pub some_entry : (size ≡ 0 → ⊥) → entry_if_any p o ≡ entry p o
-  some_entry n = go (has_entry p o) is where
-    go : (b : Bool) → size ≡ cond b (5 + rules_length (all_rules p) o) 0 → cond b (entry p o) [] ≡ entry p o
+  pub some_entry : {n : ℕ} → size ≡ Some n → entry_if_any p o ≡ entry p o
+  some_entry {n} z = go (has_entry p o) (sym is ∙ z) where
+    go : (b : Bool) → cond b (Some (5 + rules_length (all_rules p) o)) None ≡ Some n → cond b (entry p o) [] ≡ entry p o
     go true h = refl
-    go false h = absurd (n h)
+    go false h = cc
 
 -- ---- all of them
 

@@ -5,6 +5,8 @@ use mathlib.Core.List.{List, [], ◌∷◌, ◌++◌, map, append_assoc, append-
 use Prim.Native.Nat.{ℕ, suc, ◌+◌, ◌*◌, ◌/◌, ◌%◌, ◌≤◌, ◌<◌}
 use native.Mathlib.Omega.{arith}
 use lib.ListN.{length, get_or, take, drop, set, length-append, length-map}
+use Rattle.std.proofs.Common.{Option, Some, None}
+use Rattle.literals.specs.declared.Fold.{Fold}
 use Rattle.literals.specs.BodyLiterals.{conjugate_number}
 use Rattle.papers.specs.Field.{number, numbers}
 use Rattle.papers.specs.Encoding.{encode_numbers, encode_field}
@@ -12,7 +14,7 @@ use Rattle.papers.proofs.NumberLaws.{length_encoded}
 use Rattle.papers.proofs.NumbersWalked.{next_number, no_number}
 use Rattle.dual.specs.Bytes.{filled}
 use Rattle.dual_writer.specs.Chains.{Chain}
-use Rattle.dual_writer.proofs.ChainLaws.{Following, following_starts, following_done, following_link, following_room, following_next}
+use Rattle.dual_writer.proofs.ChainLaws.{Link, Following, following_starts, following_done, following_link, following_room, following_next}
 use Rattle.dual.proofs.FilledLaws.{filled_again, Numbered, numbered_none, numbered_more}
 
 map_more : (f : ℕ → ℕ) (a : List ℕ) (v : ℕ) → map f (a ++ v ∷ []) ≡ map f a ++ f v ∷ []
@@ -77,38 +79,40 @@ module _ (start body buffer : List ℕ) (i : ℕ) (w : Conjugated start body buf
 
 -- ---- 08: the folds of a literal
 
-pub record Listed (next l start buffer : List ℕ) (fold at : ℕ) : Type 0 where
+pub record Listed (next : List (Option Fold)) (l start buffer : List ℕ) (fold : Option Fold) (at : ℕ) : Type 0 where
   pub count : ℕ
   pub follows : Following next l fold count
   pub at_is : at ≡ 5 + 2 * count
   pub written : Numbered 5 start buffer follows.done
 
-pub listed_none : {next l : List ℕ} {fold : ℕ} (start : List ℕ) → 5 ≤ length start → Chain next fold l → Listed next l start start fold 5
+pub listed_none : {next : List (Option Fold)} {l : List ℕ} {fold : Option Fold} (start : List ℕ) → 5 ≤ length start → Chain next fold l
+    → Listed next l start start fold 5
 unfolding following_starts
 listed_none start h c = record { count = 0; follows = following_starts c; at_is = refl; written = numbered_none 5 start h }
 
-module _ (next l start buffer : List ℕ) (fold at : ℕ) (w : Listed next l start buffer fold at) (fits : 5 + 2 * length l ≤ length start) where
-  pub listed_done : 1280 ≤ fold → Numbered 5 start buffer l × (at ≡ 5 + 2 * length l)
-  listed_done h =
-      let d = following_done next l fold w.count w.follows h in
+module _ (next : List (Option Fold)) (l start buffer : List ℕ) (tip : Option Fold) (at : ℕ) (w : Listed next l start buffer tip at)
+    (fits : 5 + 2 * length l ≤ length start) where
+  pub listed_done : tip ≡ None → Numbered 5 start buffer l × (at ≡ 5 + 2 * length l)
+  listed_done none =
+      let d = following_done next l tip w.count w.follows none in
       (rw d.0 at w.written, omega (arith, w.at_is, d.1.0))
 
-  module _ (here : fold < 1280) where
+  module _ (fold : Fold) (some : tip ≡ Some fold) where
     pub listed_room : at + 1 < length start
-    listed_room = omega (arith, w.at_is, following_room next l fold w.count w.follows here)
+    listed_room = omega (arith, w.at_is, following_room next l tip w.count w.follows fold some)
 
-    pub listed_rises : fold < get_or next fold 0
-    listed_rises = (following_link next l fold w.count w.follows here).rises
+    pub listed_link : Link next fold w.follows.ahead
+    listed_link = following_link next l tip w.count w.follows fold some
 
-    pub listed_next : Listed next l start (set (set buffer at (fold / 256)) (at + 1) (fold % 256)) (get_or next fold 0) (at + 2)
+    pub listed_next : Listed next l start (set (set buffer at (fold.0 / 256)) (at + 1) (fold.0 % 256)) (get_or next fold.0 None) (at + 2)
     unfolding following_next
     listed_next =
-        let room = following_room next l fold w.count w.follows here in
+        let room = following_room next l tip w.count w.follows fold some in
         let size = w.follows.size in
         let more = numbered_more 5 start buffer w.follows.done w.written (omega arith) in
         record {
           count = w.count + 1;
-          follows = following_next next l fold w.count w.follows here;
+          follows = following_next next l tip w.count w.follows fold some;
           at_is = omega (arith, w.at_is);
-          written = more at fold (omega (arith, w.at_is)) listed_room;
+          written = more at fold.0 (omega (arith, w.at_is)) listed_room;
         }

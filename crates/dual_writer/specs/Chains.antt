@@ -1,29 +1,38 @@
--- The folds of an objective literal, as a chain through a table of what comes next. 1,280 is no fold.
-use Rattle.std.specs.Prelude.{◌≡◌, cond, ltb, List, [], ◌∷◌, ℕ, zero, suc, ◌<◌, get_or}
+-- The folds of an objective literal, as a chain through a table of what comes next.
+use Rattle.std.specs.Prelude.{List, [], ◌∷◌, ℕ, zero, suc, ◌<◌, get_or, Option, Some, None}
+use Rattle.literals.specs.declared.Fold.{Fold}
 use Rattle.papers.specs.declared.Contents.{Contents}
 use Rattle.papers.specs.Program.{Program}
 use Rattle.papers.specs.Reading.{program_in}
 use Rattle.papers.specs.Places.{Walked}
 use Rattle.dual.specs.Table.{folds_of}
+use Rattle.dual_writer.specs.declared.chains.Chains.{Chains}
 
--- From k on, the chain has these folds, rising.
-pub data Chain (next : List ℕ) : ℕ → List ℕ → Type 0 where
-  ends : {k : ℕ} → k ≡ 1280 → Chain next k []
-  link : {k : ℕ} {more : List ℕ} → k < 1280 → k < get_or next k 0 → Chain next (get_or next k 0) more → Chain next k (k ∷ more)
+-- A fold's number; where there is none, one past all of them.
+abbrev pub number_from : Option Fold → ℕ
+number_from None = 1280
+number_from (Some fold) = fold.0
 
--- The folds that are met from k on, at most `room`.
-unfoldable pub followed : ℕ → List ℕ → ℕ → List ℕ
-followed zero next k = []
-followed (suc room) next k = cond (ltb k 1280) (k ∷ followed room next (get_or next k 0)) []
+-- From a fold on, or from none, the chain has these folds, rising.
+pub data Chain (next : List (Option Fold)) : Option Fold → List ℕ → Type 0 where
+  ends : Chain next None []
+  link : {fold : Fold} {more : List ℕ} → fold.0 < 1280 → fold.0 < number_from (get_or next fold.0 None)
+      → Chain next (get_or next fold.0 None) more → Chain next (Some fold) (fold.0 ∷ more)
 
-abbrev pub folds_at : List ℕ → ℕ → List ℕ
-folds_at next k = followed 1280 next k
+-- The folds that are met from one on, at most `room`.
+unfoldable pub followed : ℕ → List (Option Fold) → Option Fold → List ℕ
+followed zero next ahead = []
+followed (suc room) next None = []
+followed (suc room) next (Some fold) = fold.0 ∷ followed room next (get_or next fold.0 None)
+
+abbrev pub folds_at : List (Option Fold) → Option Fold → List ℕ
+folds_at next ahead = followed 1280 next ahead
 
 -- Each objective literal's chain has its folds.
-pub record ChainsOf (p : Program) (first next : List ℕ) : Type 0 where
-  pub at : (o : ℕ) → o < 513 → Chain next (get_or first o 0) (folds_of p o)
+pub record ChainsOf (p : Program) (first next : List (Option Fold)) : Type 0 where
+  pub at : (o : ℕ) → o < 513 → Chain next (get_or first o None) (folds_of p o)
 
 -- An accepted file with the places of its folds, and its chains.
-pub record Chained (file : List ℕ) (contents : Contents) (places first next : List ℕ) : Type 0 where
+pub record Chained (file : List ℕ) (contents : Contents) (places : List ℕ) (tables : Chains) : Type 0 where
   pub walked : Walked file contents places
-  pub chains : ChainsOf (program_in file) first next
+  pub chains : ChainsOf (program_in file) tables.first tables.next

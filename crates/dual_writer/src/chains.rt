@@ -1,45 +1,68 @@
 // The folds by their heads: one pass over the rules links those of each objective literal, so that
 // no literal asks for a pass of its own.
-ghost use Rattle.std.specs.Prelude.{◌≡◌, ◌<◌, get_or};
+ghost use Rattle.std.specs.Prelude.{◌≡◌, ◌≤◌, ◌<◌, get_or, length, None};
 ghost use Rattle.papers.specs.Reading.{program_in};
 ghost use Rattle.papers.specs.Places.{Walked};
-ghost use Rattle.dual_writer.specs.Chains.{ChainsOf};
+ghost use Rattle.dual_writer.specs.Chains.{Chain, ChainsOf, folds_at};
 
-use literals::Fold;
+use literals::{Fold, Objective};
 use papers::Contents;
 
-// For each objective literal its first fold, for each fold the next of the same head; 1,280 is none.
+// For each objective literal its first fold, for each fold the next of the same head.
 #[derive(Drop)]
-pub struct Chains {
-    pub first: [usize; 513],
-    pub next: [usize; 1280],
+pub(crate) struct Chains {
+    first: [Option<Fold>; 513],
+    next: [Option<Fold>; 1280],
 }
 
-// The next fold of the same head.
-pub(crate) fn next_fold(next: &[usize; 1280], fold: Fold) -> Fold
-    requires { fold.0 < 1280 }
-    ensures { result.0 ≡ get_or next.now fold.0 0 }
-{
-    let at = fold.0;
-    Fold(next[at])
-}
-
-// From the last rule to the first, so that each chain rises.
-pub(crate) fn fold_chains(file: &[u8], contents: Contents, places: &[usize; 1280]) -> Chains
-    requires { Walked file.now contents places.now }
-    ensures { ChainsOf (program_in file.now) result.first result.next }
-{
-    let rules = contents.rules;
-    let integrity = contents.integrity;
-    let mut first = [1280usize; 513];
-    let mut next = [1280usize; 1280];
-    let mut fold = rules.count + integrity.count;
-    while 0 < fold {
-        fold -= 1;
-        let head = folds::head_of(file, contents, places, Fold(fold));
-        let at = head.0;
-        next[fold] = first[at];
-        first[at] = fold;
+impl Chains {
+    // From the last rule to the first, so that each chain rises.
+    pub(crate) fn of(file: &[u8], contents: Contents, places: &[usize; 1280]) -> Chains
+        requires { Walked file.now contents places.now }
+        ensures { ChainsOf (program_in file.now) result.first result.next }
+    {
+        let mut first = [None; 513];
+        let mut next = [None; 1280];
+        for k in (0..contents.rules.count + contents.integrity.count).rev() {
+            let fold = Fold(k);
+            let head = folds::head_of(file, contents, places, fold);
+            let at = head.0;
+            next[k] = first[at];
+            first[at] = Some(fold);
+        }
+        Chains { first, next }
     }
-    Chains { first, next }
+
+    // The first fold of an objective literal.
+    pub(crate) fn first_of(&self, o: Objective) -> Option<Fold>
+        requires { o.0 < 513 }
+        ensures { result ≡ get_or self.now.first o.0 None }
+    {
+        let at = o.0;
+        self.first[at]
+    }
+
+    // The next fold of the same head.
+    pub(crate) fn next_of(&self, fold: Fold) -> Option<Fold>
+        requires { fold.0 < 1280 }
+        ensures { result ≡ get_or self.now.next fold.0 None }
+    {
+        let at = fold.0;
+        self.next[at]
+    }
+
+    // How many folds an objective literal has.
+    pub(crate) fn count_of(&self, o: Objective) -> usize
+        requires { (o.0 < 513)
+            × Chain self.now.next (get_or self.now.first o.0 None) (folds_at self.now.next (get_or self.now.first o.0 None)) }
+        ensures { (result ≡ length (folds_at self.now.next (get_or self.now.first o.0 None))) × (result ≤ 1280) }
+    {
+        let mut count: usize = 0;
+        let mut ahead = self.first_of(o);
+        while let Some(fold) = ahead {
+            count += 1;
+            ahead = self.next_of(fold);
+        }
+        count
+    }
 }

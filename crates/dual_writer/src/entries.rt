@@ -1,5 +1,5 @@
 // The entry of one objective literal: its length, and its fields.
-ghost use Rattle.std.specs.Prelude.{◌≡◌, cond, ◌+◌, ◌*◌, ◌<◌, ◌≤◌, length};
+ghost use Rattle.std.specs.Prelude.{◌≡◌, cond, ◌+◌, ◌*◌, ◌<◌, ◌≤◌, length, Some, None, IfSome};
 ghost use Rattle.papers.specs.Program.{all_rules};
 ghost use Rattle.literals.specs.Numbering.{atom_number};
 ghost use Rattle.papers.specs.declared.FileRead.{FileRead};
@@ -10,40 +10,21 @@ ghost use Rattle.dual.specs.Table.{has_entry, is_fact, entry, entry_if_any, dual
 ghost use Rattle.dual.specs.TableEncoding.{encode_fields};
 ghost use Rattle.dual.specs.Bytes.{Fills};
 ghost use Rattle.dual.specs.Length.{rules_length, dual_length};
-ghost use Rattle.dual_writer.specs.Chains.{Chained};
+ghost use Rattle.dual_writer.specs.Sources.{Stands};
 
-use crate::chains::next_fold;
+use crate::chains::Chains;
 use crate::writing::{write_fold, write_literal};
 use conjugates::AtomOf;
-use literals::{Fold, Objective};
+use literals::Objective;
 use papers::Contents;
 
-// The bytes of an objective literal's entry, by its rules; 0 where it has none, since one of them is a fact.
-fn rules_length(
-    file: &[u8],
-    contents: Contents,
-    places: &[usize; 1280],
-    first: &[usize; 513],
-    next: &[usize; 1280],
-    o: Objective,
-) -> usize
-    requires { Chained file.now contents places.now first.now next.now × (o.0 < 513) }
-    ensures { (result ≡ cond (is_fact (all_rules (program_in file.now)) o.0) 0 (5 + rules_length (all_rules (program_in file.now)) o.0))
-        × (result < 65536) }
-{
-    let at = o.0;
-    let start = first[at];
-    let mut fold = Fold(start);
-    let mut total: usize = 5;
-    while fold.0 < 1280 {
-        let body = folds::body_of(file, contents, places, fold);
-        if body.len() == 0 {
-            return 0;
-        }
-        total = total + 7 + body.len();
-        fold = next_fold(next, fold);
-    }
-    total
+// An accepted file, with the places of its folds and their chains.
+#[derive(Clone, Copy)]
+pub(crate) struct Source<'a> {
+    pub(crate) file: &'a [u8],
+    pub(crate) contents: Contents,
+    pub(crate) places: &'a [usize; 1280],
+    pub(crate) chains: &'a Chains,
 }
 
 // Whether it is an abducible atom or its negation. Falsum is of no atom.
@@ -59,123 +40,93 @@ fn is_abducible(file: &[u8], contents: Contents, o: Objective) -> bool
     content::is_among(&file[12..end], atom)
 }
 
-// The bytes of an objective literal's entry, 0 where it has none.
-pub(crate) fn entry_length(
-    file: &[u8],
-    contents: Contents,
-    places: &[usize; 1280],
-    first: &[usize; 513],
-    next: &[usize; 1280],
-    o: Objective,
-) -> usize
-    requires { Chained file.now contents places.now first.now next.now × (o.0 < 513) }
-    ensures { (result ≡ cond (has_entry (program_in file.now) o.0) (5 + rules_length (all_rules (program_in file.now)) o.0) 0)
-        × (result < 65536) }
-{
-    if is_abducible(file, contents, o) {
-        return 0;
+impl<'a> Source<'a> {
+    // The bytes of an objective literal's entry, by its rules; none where one of them is a fact.
+    fn rules_length(&self, o: Objective) -> Option<usize>
+        requires { Stands self.now × (o.0 < 513) }
+        ensures { (result
+            ≡ cond (is_fact (all_rules (program_in self.now.file.now)) o.0) None (Some (5 + rules_length (all_rules (program_in self.now.file.now)) o.0)))
+            × IfSome result (λ size. size < 65536) }
+    {
+        let mut total: usize = 5;
+        let mut ahead = self.chains.first_of(o);
+        while let Some(fold) = ahead {
+            let body = folds::body_of(self.file, self.contents, self.places, fold);
+            if body.is_empty() {
+                return None;
+            }
+            total += 7 + body.len();
+            ahead = self.chains.next_of(fold);
+        }
+        Some(total)
     }
-    rules_length(file, contents, places, first, next, o)
-}
 
-// The length of the dual.
-pub(crate) fn dual_length(
-    file: &[u8],
-    contents: Contents,
-    places: &[usize; 1280],
-    first: &[usize; 513],
-    next: &[usize; 1280],
-) -> usize
-    requires { Chained file.now contents places.now first.now next.now }
-    ensures { result ≡ dual_length (program_in file.now) }
-{
-    let judged = literals::judged(contents.atoms);
-    let mut total: usize = 0;
-    let mut o: usize = 0;
-    while o < judged {
-        total += entry_length(file, contents, places, first, next, Objective(o));
-        o += 1;
+    // The bytes of an objective literal's entry, if it has one.
+    fn entry_length(&self, o: Objective) -> Option<usize>
+        requires { Stands self.now × (o.0 < 513) }
+        ensures { (result ≡ cond (has_entry (program_in self.now.file.now) o.0) (Some (5 + rules_length (all_rules (program_in self.now.file.now)) o.0)) None)
+            × IfSome result (λ size. size < 65536) }
+    {
+        if is_abducible(self.file, self.contents, o) {
+            return None;
+        }
+        self.rules_length(o)
     }
-    total + 3
-}
 
-// The entry of an objective literal: its field, then that of each of its folds, each into the part of the buffer that
-// begins where the one before ended.
-fn write_entry(
-    buffer: &mut [u8],
-    file: &[u8],
-    contents: Contents,
-    places: &[usize; 1280],
-    first: &[usize; 513],
-    next: &[usize; 1280],
-    o: Objective,
-) -> usize
-    requires { Chained file.now contents places.now first.now next.now × ((o.0 < 513)
-        × (length (encode_fields (entry (program_in file.now) o.0)) ≤ length buffer.old)) }
-    ensures { Fills (encode_fields (entry (program_in file.now) o.0)) buffer.old result buffer.new }
-{
-    let at = o.0;
-    let number = first[at];
-    let start = Fold(number);
-    let mut end = write_literal(buffer, next, start, o);
-    let mut fold = start;
-    while fold.0 < 1280 {
-        let body = folds::body_of(file, contents, places, fold);
-        let size = write_fold(&mut buffer[end..], fold, body);
-        end += size;
-        fold = next_fold(next, fold);
+    // The length of the dual.
+    pub(crate) fn dual_length(&self) -> usize
+        requires { Stands self.now }
+        ensures { result ≡ dual_length (program_in self.now.file.now) }
+    {
+        let judged = literals::judged(self.contents.atoms);
+        let mut total: usize = 0;
+        for o in 0..judged {
+            total += self.entry_length(Objective(o)).unwrap_or(0);
+        }
+        total + 3
     }
-    end
-}
 
-// The same where it has an entry, and nothing where it has none.
-fn write_any_entry(
-    buffer: &mut [u8],
-    file: &[u8],
-    contents: Contents,
-    places: &[usize; 1280],
-    first: &[usize; 513],
-    next: &[usize; 1280],
-    o: Objective,
-) -> usize
-    requires { Chained file.now contents places.now first.now next.now × ((o.0 < 513)
-        × (length (encode_fields (entry_if_any (program_in file.now) o.0)) ≤ length buffer.old)) }
-    ensures { Fills (encode_fields (entry_if_any (program_in file.now) o.0)) buffer.old result buffer.new }
-{
-    if entry_length(file, contents, places, first, next, o) == 0 {
-        return 0;
+    // The entry of an objective literal: its field, then that of each of its folds, each into the part of the buffer that
+    // begins where the one before ended.
+    fn write_entry(&self, buffer: &mut [u8], o: Objective) -> usize
+        requires { Stands self.now × ((o.0 < 513)
+            × (length (encode_fields (entry (program_in self.now.file.now) o.0)) ≤ length buffer.old)) }
+        ensures { Fills (encode_fields (entry (program_in self.now.file.now) o.0)) buffer.old result buffer.new }
+    {
+        let mut end = write_literal(buffer, self.chains, o);
+        let mut ahead = self.chains.first_of(o);
+        while let Some(fold) = ahead {
+            let body = folds::body_of(self.file, self.contents, self.places, fold);
+            let size = write_fold(&mut buffer[end..], fold, body);
+            end += size;
+            ahead = self.chains.next_of(fold);
+        }
+        end
     }
-    write_entry(buffer, file, contents, places, first, next, o)
-}
 
-// The entries of all objective literals, falsum's last.
-pub(crate) fn write_entries(
-    buffer: &mut [u8],
-    file: &[u8],
-    contents: Contents,
-    places: &[usize; 1280],
-    first: &[usize; 513],
-    next: &[usize; 1280],
-) -> usize
-    requires { Chained file.now contents places.now first.now next.now
-        × (dual_length (program_in file.now) ≤ length buffer.old) }
-    ensures { Fills (encode_fields (dual (program_in file.now))) buffer.old result buffer.new }
-{
-    let judged = literals::judged(contents.atoms);
-    let mut end: usize = 0;
-    let mut o: usize = 0;
-    while o < judged {
-        let size = write_any_entry(
-            &mut buffer[end..],
-            file,
-            contents,
-            places,
-            first,
-            next,
-            Objective(o),
-        );
-        end += size;
-        o += 1;
+    // The same where it has an entry, and nothing where it has none.
+    fn write_any_entry(&self, buffer: &mut [u8], o: Objective) -> usize
+        requires { Stands self.now × ((o.0 < 513)
+            × (length (encode_fields (entry_if_any (program_in self.now.file.now) o.0)) ≤ length buffer.old)) }
+        ensures { Fills (encode_fields (entry_if_any (program_in self.now.file.now) o.0)) buffer.old result buffer.new }
+    {
+        match self.entry_length(o) {
+            Some(_) => self.write_entry(buffer, o),
+            None => 0,
+        }
     }
-    end
+
+    // The entries of all objective literals, falsum's last.
+    pub(crate) fn write_entries(&self, buffer: &mut [u8]) -> usize
+        requires { Stands self.now × (dual_length (program_in self.now.file.now) ≤ length buffer.old) }
+        ensures { Fills (encode_fields (dual (program_in self.now.file.now))) buffer.old result buffer.new }
+    {
+        let judged = literals::judged(self.contents.atoms);
+        let mut end: usize = 0;
+        for o in 0..judged {
+            let size = self.write_any_entry(&mut buffer[end..], Objective(o));
+            end += size;
+        }
+        end
+    }
 }

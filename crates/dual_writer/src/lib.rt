@@ -10,8 +10,8 @@ ghost use Rattle.papers.specs.Reading.{read_file};
 ghost use Rattle.papers.specs.Places.{Walked};
 ghost use Rattle.dual_writer.specs.WrittenDual.{written_told, dual_told, dual_after};
 
-use chains::fold_chains;
-use entries::{dual_length, write_entries};
+use chains::Chains;
+use entries::Source;
 use field_writer::write_end;
 use papers::{Contents, FileRead, Refusal};
 
@@ -34,17 +34,21 @@ pub fn write_accepted(
     ensures { (written_told result ≡ dual_told (read_file file.now) (length dual.old))
         × (dual.new ≡ cond allowed (dual_after (read_file file.now) dual.old) dual.old) }
 {
-    let chains = fold_chains(file, contents, places);
-    let first = chains.first;
-    let next = chains.next;
-    let size = dual_length(file, contents, places, &first, &next);
+    let chains = Chains::of(file, contents, places);
+    let source = Source {
+        file,
+        contents,
+        places,
+        chains: &chains,
+    };
+    let size = source.dual_length();
     if dual.len() < size {
         return Err(DualError::Short);
     }
     if !allowed {
         return Ok(size);
     }
-    let end = write_entries(dual, file, contents, places, &first, &next);
+    let end = source.write_entries(dual);
     write_end(&mut dual[end..]);
     Ok(size)
 }

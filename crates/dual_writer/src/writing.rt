@@ -1,5 +1,5 @@
 // One field of the dual, written into the part of the buffer that it is lent.
-ghost use Rattle.std.specs.Prelude.{◌≡◌, ◌∷◌, map, ◌+◌, ◌*◌, ◌<◌, ◌≤◌, length};
+ghost use Rattle.std.specs.Prelude.{◌≡◌, ◌∷◌, map, ◌+◌, ◌*◌, ◌<◌, ◌≤◌, get_or, length, None};
 ghost use Rattle.literals.specs.Numbering.{default_conjugate};
 ghost use Rattle.literals.specs.BodyLiterals.{body_number, body_conjugate, conjugate_number};
 ghost use Rattle.papers.specs.Field.{numbers};
@@ -7,7 +7,7 @@ ghost use Rattle.papers.specs.Encoding.{encode_numbers, encode_field};
 ghost use Rattle.dual.specs.Bytes.{filled};
 ghost use Rattle.dual_writer.specs.Chains.{Chain, folds_at};
 
-use crate::chains::next_fold;
+use crate::chains::Chains;
 use conjugates::LiteralOf;
 use field_writer::{put_heading, put_number};
 use literals::bodies::{BodyLiteral, body_number};
@@ -49,52 +49,31 @@ pub(crate) fn write_fold(buffer: &mut [u8], fold: Fold, body: &[u8]) -> usize
 {
     let size = body.len();
     put_heading(buffer, 0x09, 2 + size, fold.0);
-    let count = size / 2;
-    let mut i: usize = 0;
-    while i < count {
+    // By index: a literal's conjugate stands at its place.
+    for i in 0..size / 2 {
         let conjugate = body_conjugate(body_literal_at(body, 2 * i));
-        let number = body_number(conjugate);
-        put_number(buffer, 5 + 2 * i, number);
-        i += 1;
+        put_number(buffer, 5 + 2 * i, body_number(conjugate));
     }
     5 + size
 }
 
-// How many folds a chain has.
-fn fold_count(next: &[usize; 1280], start: Fold) -> usize
-    requires { Chain next.now start.0 (folds_at next.now start.0) }
-    ensures { (result ≡ length (folds_at next.now start.0)) × (result ≤ 1280) }
-{
-    let mut count: usize = 0;
-    let mut fold = start;
-    while fold.0 < 1280 {
-        count += 1;
-        fold = next_fold(next, fold);
-    }
-    count
-}
-
 // 08: the objective literal, and the fold numbers of its rules.
-pub(crate) fn write_literal(
-    buffer: &mut [u8],
-    next: &[usize; 1280],
-    start: Fold,
-    o: Objective,
-) -> usize
-    requires { Chain next.now start.0 (folds_at next.now start.0)
-        × ((5 + 2 * length (folds_at next.now start.0) ≤ length buffer.old)
-        × (o.0 < 65536)) }
-    ensures { (result ≡ 5 + 2 * length (folds_at next.now start.0))
-        × (buffer.new ≡ filled (encode_field 0x08 (encode_numbers (o.0 ∷ folds_at next.now start.0))) buffer.old) }
+pub(crate) fn write_literal(buffer: &mut [u8], chains: &Chains, o: Objective) -> usize
+    requires { Chain chains.now.next (get_or chains.now.first o.0 None) (folds_at chains.now.next (get_or chains.now.first o.0 None))
+        × ((5 + 2 * length (folds_at chains.now.next (get_or chains.now.first o.0 None)) ≤ length buffer.old)
+        × (o.0 < 513)) }
+    ensures { (result ≡ 5 + 2 * length (folds_at chains.now.next (get_or chains.now.first o.0 None)))
+        × (buffer.new
+        ≡ filled (encode_field 0x08 (encode_numbers (o.0 ∷ folds_at chains.now.next (get_or chains.now.first o.0 None)))) buffer.old) }
 {
-    let count = fold_count(next, start);
+    let count = chains.count_of(o);
     put_heading(buffer, 0x08, 2 + 2 * count, o.0);
     let mut at: usize = 5;
-    let mut fold = start;
-    while fold.0 < 1280 {
+    let mut ahead = chains.first_of(o);
+    while let Some(fold) = ahead {
         put_number(buffer, at, fold.0);
         at += 2;
-        fold = next_fold(next, fold);
+        ahead = chains.next_of(fold);
     }
     at
 }

@@ -12,7 +12,7 @@ use Rattle.dual.proofs.FilledLaws.{put_end}
 use Rattle.dual_writer.specs.Chains.{Chained}
 use Rattle.dual_writer.proofs.TableWriting.{table_length, end_written, dual_short, dual_length_is, dual_fits}
 use Rattle.dual_writer.proofs.write_accepted.Goals as goal
-use Rattle.dual_writer.proofs.write_accepted.Goals.{After-fold_chains-chains, After-write_entries-end, Start}
+use Rattle.dual_writer.proofs.write_accepted.Goals.{After-of-chains, After-write_entries-end, Start}
 
 -- ---- what the file says
 
@@ -25,39 +25,37 @@ module _ (c : Start) where
 
 -- ---- once the folds are chained
 
-module _ (c : After-fold_chains-chains) where
-  linked : Chained c.args.file.now c.args.contents c.args.places.now c.fold_chains-chains.result.first c.fold_chains-chains.result.next
-  linked = record { walked = c.requires; chains = c.fold_chains-chains.ensures }
-
--- ---- once the dual's length is known
+linked : (c : After-of-chains) → Chained c.args.file.now c.args.contents c.args.places.now c.of-chains.result
+linked c = record { walked = c.requires; chains = c.of-chains.ensures }
 
 -- ---- once the entries are written
 
-module _ (c : After-write_entries-end) where
-  -- There is room for the end.
-  room : c.write_entries-end.result + 3 ≤ length c.write_entries-end.new.buffer
-  room =
-      let w = c.write_entries-end in
-      let size = table_length (program (goal.at.After-write_entries-end c).Start) in
-      omega (arith, w.ensures.0, w.auto.buffer, c.dual_length-size.ensures, c.if-dual-size.false)
+-- There is room for the end.
+room : (c : After-write_entries-end) → c.write_entries-end.result + 3 ≤ length c.write_entries-end.new.buffer
+room c =
+    let w = c.write_entries-end in
+    let size = table_length (program (goal.at.After-write_entries-end c).Start) in
+    omega (arith, w.ensures.0, w.auto.buffer, c.dual_length-size.ensures, c.if-dual-size.false)
 
 pub dual_length-size-requires : goal.dual_length-size-requires
-dual_length-size-requires c = linked (goal.at.dual_length-size-requires c).After-fold_chains-chains
+dual_length-size-requires c = linked (goal.at.dual_length-size-requires c).After-of-chains
 
 pub returns-then-dual-size : goal.returns-then-dual-size
 returns-then-dual-size c =
+    let start = (goal.at.returns-then-dual-size c).Start in
     let a = c.args in
-    dual_short a.file.now a.dual.now (program (goal.at.returns-then-dual-size c).Start) (read (goal.at.returns-then-dual-size c).Start) c.dual_length-size.ensures a.allowed c.if-dual-size.true
+    dual_short a.file.now a.dual.now (program start) (read start) c.dual_length-size.ensures a.allowed c.if-dual-size.true
 
 pub returns-then-not-allowed : goal.returns-then-not-allowed
 returns-then-not-allowed c =
+    let start = (goal.at.returns-then-not-allowed c).Start in
     let a = c.args in
-    let size = dual_length_is a.file.now a.dual.now (program (goal.at.returns-then-not-allowed c).Start) (read (goal.at.returns-then-not-allowed c).Start) c.dual_length-size.ensures c.if-dual-size.false in
+    let size = dual_length_is a.file.now a.dual.now (program start) (read start) c.dual_length-size.ensures c.if-dual-size.false in
     (size, rw (c.if-not-allowed.true))
 
 pub write_entries-end-requires : goal.write_entries-end-requires
 write_entries-end-requires c =
-    (linked (goal.at.write_entries-end-requires c).After-fold_chains-chains, omega (arith, c.dual_length-size.ensures, c.if-dual-size.false))
+    (linked (goal.at.write_entries-end-requires c).After-of-chains, omega (arith, c.dual_length-size.ensures, c.if-dual-size.false))
 
 pub slice_bounds-write_end-count : goal.slice_bounds-write_end-count
 slice_bounds-write_end-count c = omega (arith, room (goal.at.slice_bounds-write_end-count c).After-write_entries-end)
@@ -74,14 +72,15 @@ write_end-requires c =
 
 pub returns : goal.returns
 returns c =
+    let start = (goal.at.returns c).Start in
     let ended = c.write_end in
     let w = c.write_entries-end in
     let a = c.args in
     let size = c.dual_length-size.ensures in
     let fits = c.if-dual-size.false in
     let end = rw (to_end w.result w.new.buffer) at ended.ensures in
-    let whole = end_written (program (goal.at.returns c).Start) a.dual.now w.new.buffer ended.new.buffer w.result w.ensures.0 w.ensures.1 end in (
-      dual_length_is a.file.now a.dual.now (program (goal.at.returns c).Start) (read (goal.at.returns c).Start) size fits,
-      rw (c.if-not-allowed.false)
-          (dual_fits a.file.now a.dual.now (program (goal.at.returns c).Start) (read (goal.at.returns c).Start) size fits _ (put_end w.result w.new.buffer ended.new.buffer ∙ whole)),
+    let whole = end_written (program start) a.dual.now w.new.buffer ended.new.buffer w.result w.ensures.0 w.ensures.1 end in
+    let put = put_end w.result w.new.buffer ended.new.buffer ∙ whole in (
+      dual_length_is a.file.now a.dual.now (program start) (read start) size fits,
+      rw (c.if-not-allowed.false) (dual_fits a.file.now a.dual.now (program start) (read start) size fits _ put),
     )

@@ -1,80 +1,81 @@
 -- `dual_writer::writing::write_literal` meets its contract. The loop's invariant: the folds behind are written.
-use mathlib.Core.Path.{refl, ◌∙◌}
+use mathlib.Core.Path.{refl, ap, ◌∙◌}
 use mathlib.Core.List.{List}
-use Prim.Native.Nat.{ℕ, ◌+◌, ◌*◌, ◌≤◌, ◌<◌}
+use Prim.Native.Nat.{ℕ, ◌+◌, ◌*◌, ◌≤◌}
 use native.Mathlib.Omega.{arith}
 use lib.ListN.{length, get_or}
-use Rattle.dual_writer.specs.Chains.{folds_at}
-use Rattle.dual_writer.proofs.WritingLaws.{field_written, listed_none, listed_done, listed_room, listed_rises, listed_next}
+use Rattle.std.proofs.Common.{None}
+use Rattle.dual_writer.specs.Chains.{number_from, folds_at}
+use Rattle.dual_writer.proofs.WritingLaws.{field_written, listed_none, listed_done, listed_room, listed_link, listed_next}
 use Rattle.dual_writer.proofs.writing.write_literal.Goals as goal
-use Rattle.dual_writer.proofs.writing.write_literal.Goals.{After-put_heading, In-loop-fold}
+use Rattle.dual_writer.proofs.writing.write_literal.Goals.{After-put_heading}
 
 -- ---- once the heading is written
 
 module _ (c : After-put_heading) where
   abbrev folds : List ℕ
-  folds = folds_at c.args.next.now c.args.start.0
+  folds = folds_at c.args.chains.now.next (get_or c.args.chains.now.first c.args.o.0 None)
 
   -- There is room for the folds.
   fits : 5 + 2 * length folds ≤ length c.put_heading.new.buffer
   fits = omega (arith, c.put_heading.auto.buffer)
 
--- ---- in a turn of the loop
+pub count_of-count-requires : goal.count_of-count-requires
+count_of-count-requires c = (c.requires.1.1, c.requires.0)
 
-module _ (c : In-loop-fold) where
-  -- There is room for one more.
-  room : c.loop-fold.at + 1 < length c.put_heading.new.buffer
-  room = listed_room _ _ _ _ _ _ c.loop-fold.invariant.0 (fits (goal.at.In-loop-fold c).After-put_heading) c.loop-fold-test.true
-
-  rises : c.loop-fold.fold.0 < get_or c.args.next.now c.loop-fold.fold.0 0
-  rises = listed_rises _ _ _ _ _ _ c.loop-fold.invariant.0 (fits (goal.at.In-loop-fold c).After-put_heading) c.loop-fold-test.true
-
-pub fold_count-count-requires : goal.fold_count-count-requires
-fold_count-count-requires c = c.requires.0
-
-pub overflow_mul-count : goal.overflow_mul-count
-overflow_mul-count c = omega (arith, c.fold_count-count.ensures.1)
-
-pub overflow_add-count : goal.overflow_add-count
-overflow_add-count c = omega (arith, c.fold_count-count.ensures.1)
-
-pub put_heading-requires : goal.put_heading-requires
-put_heading-requires c = (omega arith, (omega (arith, c.fold_count-count.ensures.1), c.requires.1.1))
-
-pub loop-fold-init : goal.loop-fold-init
-loop-fold-init c =
-    (listed_none c.put_heading.new.buffer (omega (arith, fits (goal.at.loop-fold-init c).After-put_heading)) c.requires.0, refl)
+pub loop-ahead-init : goal.loop-ahead-init
+loop-ahead-init c =
+    let f = fits (goal.at.loop-ahead-init c).After-put_heading in
+    (listed_none c.put_heading.new.buffer (omega arith) (rw c.first_of-ahead.ensures c.requires.0), refl)
 
 pub put_number-requires : goal.put_number-requires
-put_number-requires c = (omega (arith, room (goal.at.put_number-requires c).In-loop-fold, c.loop-fold.invariant.1), omega arith)
+put_number-requires c =
+    let f = fits (goal.at.put_number-requires c).After-put_heading in
+    let l = c.loop-ahead in
+    let r = listed_room _ _ _ _ _ _ l.invariant.0 f c.in-Some.fold c.in-Some.is in
+    let k = listed_link _ _ _ _ _ _ l.invariant.0 f c.in-Some.fold c.in-Some.is in
+    (omega (arith, l.invariant.1), omega (arith, k.few))
 
 pub overflow_add-at : goal.overflow_add-at
 overflow_add-at c =
-    omega (arith, room (goal.at.overflow_add-at c).In-loop-fold, c.put_heading.auto.buffer)
+    let f = fits (goal.at.overflow_add-at c).After-put_heading in
+    let r = listed_room _ _ _ _ _ _ c.loop-ahead.invariant.0 f c.in-Some.fold c.in-Some.is in
+    omega (arith, c.put_heading.auto.buffer)
 
-pub next_fold-fold-requires : goal.next_fold-fold-requires
-next_fold-fold-requires c = c.loop-fold-test.true
+pub next_of-ahead-requires : goal.next_of-ahead-requires
+next_of-ahead-requires c =
+    let f = fits (goal.at.next_of-ahead-requires c).After-put_heading in
+    (listed_link _ _ _ _ _ _ c.loop-ahead.invariant.0 f c.in-Some.fold c.in-Some.is).few
 
-pub loop-fold-smaller : goal.loop-fold-smaller
-loop-fold-smaller c = omega (arith, rises (goal.at.loop-fold-smaller c).In-loop-fold, c.next_fold-fold.ensures)
+pub loop-ahead-smaller : goal.loop-ahead-smaller
+loop-ahead-smaller c =
+    let f = fits (goal.at.loop-ahead-smaller c).After-put_heading in
+    let k = listed_link _ _ _ _ _ _ c.loop-ahead.invariant.0 f c.in-Some.fold c.in-Some.is in
+    let n = ap number_from c.in-Some.is in
+    let rising = k.rises in
+    let r = rw (← c.next_of-ahead.ensures) at rising in
+    omega (arith, k.few)
 
-pub loop-fold-preserved : goal.loop-fold-preserved
-loop-fold-preserved c =
+pub loop-ahead-preserved : goal.loop-ahead-preserved
+loop-ahead-preserved c =
+    let f = fits (goal.at.loop-ahead-preserved c).After-put_heading in
     let put = c.put_number in
-    let at = c.loop-fold in (
-      rw (put.ensures, c.next_fold-fold.ensures) (listed_next _ _ _ _ _ _ at.invariant.0 (fits (goal.at.loop-fold-preserved c).After-put_heading) c.loop-fold-test.true),
-      put.auto.buffer ∙ at.invariant.1,
+    let l = c.loop-ahead in (
+      rw (put.ensures, c.next_of-ahead.ensures) (listed_next _ _ _ _ _ _ l.invariant.0 f c.in-Some.fold c.in-Some.is),
+      put.auto.buffer ∙ l.invariant.1,
     )
 
 pub shape_of-buffer : goal.shape_of-buffer
-shape_of-buffer c = c.loop-fold.invariant.1 ∙ c.put_heading.auto.buffer
+shape_of-buffer c = c.loop-ahead.invariant.1 ∙ c.put_heading.auto.buffer
 
 pub returns : goal.returns
 returns c =
+    let heading = (goal.at.returns c).After-put_heading in
     let a = c.args in
-    let count = c.fold_count-count in
-    let d = listed_done _ _ _ _ _ _ c.loop-fold.invariant.0 (fits (goal.at.returns c).After-put_heading) c.loop-fold-test.false in (
+    let count = c.count_of-count in
+    let l = c.loop-ahead in
+    let d = listed_done _ _ _ _ _ _ l.invariant.0 (fits heading) c.in_default.is in (
       d.1,
-      field_written 0x08 a.o.0 (2 + 2 * count.result) (folds (goal.at.returns c).After-put_heading) a.buffer.now c.put_heading.new.buffer c.loop-fold.buffer
+      field_written 0x08 a.o.0 (2 + 2 * count.result) (folds heading) a.buffer.now c.put_heading.new.buffer l.buffer
           (omega (arith, count.ensures.0)) (omega arith) c.put_heading.ensures d.0,
     )

@@ -1,0 +1,30 @@
+-- `dual_writer::entries::Source::write_any_entry` meets its contract.
+use mathlib.Core.Path.{◌≡◌}
+use Rattle.papers.specs.Reading.{program_in}
+use Rattle.dual.specs.Table.{entry, entry_if_any}
+use Rattle.dual.specs.TableEncoding.{encode_fields}
+use Rattle.dual_writer.proofs.TableWriting.{no_entry, some_entry}
+use Rattle.dual_writer.proofs.entries.Source.write_any_entry.Goals as goal
+use Rattle.dual_writer.proofs.entries.Source.write_any_entry.Goals.{In-Some}
+
+-- ---- where there is an entry
+
+module _ (c : In-Some) where
+  is : entry_if_any (program_in c.args.self.now.file.now) c.args.o.0 ≡ entry (program_in c.args.self.now.file.now) c.args.o.0
+  is = some_entry (program_in c.args.self.now.file.now) c.args.o.0 c.entry_length.ensures.0 c.in-Some.is
+
+pub write_entry-requires : goal.write_entry-requires
+write_entry-requires c =
+    let pre = c.requires in
+    (pre.0, (pre.1.0, rw (is (goal.at.write_entry-requires c).In-Some) at pre.1.1))
+
+pub returns-in-Some : goal.returns-in-Some
+returns-in-Some c =
+    let e = is (goal.at.returns-in-Some c).In-Some in
+    (rw e c.write_entry.ensures.0, rw e c.write_entry.ensures.1)
+
+pub returns-in-None : goal.returns-in-None
+unfolding encode_fields
+returns-in-None c =
+    let none = no_entry (program_in c.args.self.now.file.now) c.args.o.0 c.entry_length.ensures.0 c.in-None.is in
+    (rw none, rw none)

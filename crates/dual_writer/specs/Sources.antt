@@ -1,0 +1,7 @@
+-- An accepted file, with what was made of it before its dual is written.
+use Rattle.dual_writer.specs.declared.entries.Source.{Source}
+use Rattle.dual_writer.specs.Chains.{Chained}
+
+-- The places are those of its folds, and the chains have these.
+abbrev pub Stands : Source → Type 0
+Stands s = Chained s.file.now s.contents s.places.now s.chains.now
