@@ -10,17 +10,15 @@ use lib.Dec.{leb}
 use lib.ListN.{length, take, drop}
 use Rattle.std.proofs.Common.{Result, Ok, Err}
 use Rattle.papers.specs.declared.Contents.{Contents}
-use Rattle.papers.specs.declared.PapersRead.TheVariants.{Accepted}
 use Rattle.papers.specs.Program.{Program, Query}
 use Rattle.papers.specs.Valid.{ValidQuery}
 use Rattle.papers.specs.Field.{numbers}
 use Rattle.papers.specs.Outcome.{Outcome, accepted}
 use Rattle.papers.specs.Reading.{read_papers, program_in, Papers}
-use Rattle.papers.specs.Answers.{papers_answer}
 use Rattle.papers.specs.declared.Bare.TheVariants as bare
-use Rattle.papers.specs.Told.{tells, bare_told}
+use Rattle.papers.specs.Told.{tells, bare_told, read_told, papers_of}
 use Rattle.papers.proofs.NumberLaws.{Bytes}
-use Rattle.papers.proofs.ReadersGot.{papers_accepted}
+use Rattle.papers.proofs.ReadersGot.{told_accepted}
 use Rattle.papers.proofs.BothAccepted.{BothTold}
 use Rattle.dual_writer.specs.declared.DualError.{DualError}
 use Rattle.dual_writer.specs.declared.DualError.TheVariants.{Short}
@@ -53,13 +51,13 @@ module _ {file sheet : List ℕ} {contents : Contents} {literals : ℕ} (both : 
       let e = abducibles_are file contents both.answer in
       omega arith
 
-  pub few_literals : papers_answer (read_papers file sheet) ≡ Accepted contents literals → literals ≤ 16
+  pub few_literals : read_told papers_of (read_papers file sheet) ≡ tells (contents, literals) → literals ≤ 16
   few_literals e =
-      let q = papers_accepted (read_papers file sheet) (sym e) refl in
-      let same : accepted q.papers ≡ accepted (record { program = program_in file; query = both.query }) = sym q.is ∙ both.is in
-      let query : q.papers.query ≡ both.query = cc in
+      let q = told_accepted papers_of (read_papers file sheet) e in
+      let same : accepted q.value ≡ accepted (record { program = program_in file; query = both.query }) = sym q.is ∙ both.is in
+      let query : q.value.query ≡ both.query = cc in
       let few = both.valid.few in
-      let size = q.size in
+      let size = ap (λ (x : Contents × ℕ). x.1) q.tells_it in
       let long = ap length query in
       omega arith
 

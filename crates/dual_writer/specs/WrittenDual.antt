@@ -3,7 +3,7 @@ use Rattle.std.specs.Prelude.{cond, List, ℕ, leb, length, Result, Ok, Err}
 use Rattle.papers.specs.Program.{Program}
 use Rattle.papers.specs.Outcome.{Outcome, accepted, refused}
 use Rattle.papers.specs.declared.Bare.TheVariants as bare
-use Rattle.papers.specs.Told.{Told, tells, bare_told, refusal_told}
+use Rattle.papers.specs.Told.{Told, tells, bare_told, refusal_of, refusal_told}
 use Rattle.dual.specs.Bytes.{dual_of, filled}
 use Rattle.dual_writer.specs.declared.DualError.{DualError}
 use Rattle.dual_writer.specs.declared.DualError.TheVariants.{Short, Refused}
@@ -12,7 +12,7 @@ use Rattle.dual_writer.specs.declared.DualError.TheVariants.{Short, Refused}
 unfoldable pub written_told : Result ℕ DualError → Told ℕ
 written_told (Ok n) = tells n
 written_told (Err Short) = bare_told bare.ShortDual
-written_told (Err (Refused r)) = refusal_told r
+written_told (Err (Refused r)) = refusal_told (refusal_of r)
 
 -- What writing has to tell. 11: "lent dual buffer shorter than the dual"; `room` is the length of the lent buffer.
 unfoldable pub dual_told : Outcome Program → ℕ → Told ℕ

@@ -2,10 +2,10 @@
 ghost use Rattle.std.specs.Prelude.{◌≡◌, cond, ◌+◌, ◌*◌, ◌<◌, ◌≤◌, length, Some, None, IfSome};
 ghost use Rattle.papers.specs.Program.{all_rules};
 ghost use Rattle.literals.specs.Numbering.{atom_number};
-ghost use Rattle.papers.specs.declared.FileRead.{FileRead};
 ghost use Rattle.papers.specs.Content.{is_among};
 ghost use Rattle.papers.specs.Reading.{read_file, program_in};
-ghost use Rattle.papers.specs.Answers.{file_answer};
+ghost use Rattle.papers.specs.Answers.{contents_of};
+ghost use Rattle.papers.specs.Told.{tells, read_told};
 ghost use Rattle.dual.specs.Table.{has_entry, is_fact, entry, entry_if_any, dual};
 ghost use Rattle.dual.specs.TableEncoding.{encode_fields};
 ghost use Rattle.dual.specs.Bytes.{Fills};
@@ -14,7 +14,6 @@ ghost use Rattle.dual_writer.specs.Sources.{Stands};
 
 use crate::chains::Chains;
 use crate::writing::{write_fold, write_literal};
-use conjugates::AtomOf;
 use literals::Objective;
 use papers::Contents;
 
@@ -29,15 +28,14 @@ pub(crate) struct Source<'a> {
 
 // Whether it is an abducible atom or its negation. Falsum is of no atom.
 fn is_abducible(file: &[u8], contents: Contents, o: Objective) -> bool
-    requires { file_answer (read_file file.now) ≡ FileRead.Accepted contents }
+    requires { read_told contents_of (read_file file.now) ≡ tells contents }
     ensures { result ≡ is_among (program_in file.now).abducibles (atom_number o.0) }
 {
-    let owner = conjugates::atom_of(o, contents.atoms);
-    let AtomOf::Is(atom) = owner else {
-        return false;
-    };
     let end = 12 + 2 * contents.abducibles;
-    content::is_among(&file[12..end], atom)
+    match conjugates::atom_of(o, contents.atoms) {
+        Some(atom) => content::is_among(&file[12..end], atom),
+        None => false,
+    }
 }
 
 impl<'a> Source<'a> {

@@ -8,18 +8,27 @@ mod writing;
 ghost use Rattle.std.specs.Prelude.{◌≡◌, cond, length};
 ghost use Rattle.papers.specs.Reading.{read_file};
 ghost use Rattle.papers.specs.Places.{Walked};
+ghost use Rattle.dual_writer.specs.declared.DualError.TheVariants.{Refused};
 ghost use Rattle.dual_writer.specs.WrittenDual.{written_told, dual_told, dual_after};
 
 use chains::Chains;
 use entries::Source;
 use field_writer::write_end;
-use papers::{Contents, FileRead, Refusal};
+use papers::{Contents, Refusal};
 
 // Why no dual is written: document 01's refusal 11, or one of the file's.
-#[derive(Clone, Copy)]
+#[derive(Clone, Copy, PartialEq, Eq, Debug)]
 pub enum DualError {
     Short,
     Refused(Refusal),
+}
+
+impl From<Refusal> for DualError {
+    ghost from_gives = { λ refusal error. error ≡ Refused refusal };
+
+    fn from(refusal: Refusal) -> DualError {
+        DualError::Refused(refusal)
+    }
 }
 
 // The dual's length. The dual of a file that was read already goes into a buffer that stays as it is where `allowed` is false.
@@ -57,13 +66,7 @@ pub fn write_dual(file: &[u8], dual: &mut [u8]) -> Result<usize, DualError>
     ensures { (written_told result ≡ dual_told (read_file file.now) (length dual.old))
         × (dual.new ≡ dual_after (read_file file.now) dual.old) }
 {
-    let read = reading::read_file(file);
-    let FileRead::Accepted(contents) = read else {
-        let FileRead::Refused(refusal) = read else {
-            return Err(DualError::Short);
-        };
-        return Err(DualError::Refused(refusal));
-    };
+    let contents = reading::read_file(file)?;
     let places = folds::fold_places(file, contents);
     write_accepted(file, contents, &places, dual, true)
 }

@@ -8,7 +8,6 @@ ghost use Rattle.dual.specs.Bytes.{filled};
 ghost use Rattle.dual_writer.specs.Chains.{Chain, folds_at};
 
 use crate::chains::Chains;
-use conjugates::LiteralOf;
 use field_writer::{put_heading, put_number};
 use literals::bodies::{BodyLiteral, body_number};
 use literals::{Fold, Literal, Objective};
@@ -19,11 +18,7 @@ fn conjugate_of(l: Literal) -> Literal
     requires { l.0 < 65536 }
     ensures { (result.0 ≡ default_conjugate l.0) × (result.0 < 65536) }
 {
-    let conjugate = conjugates::default_conjugate_number(l, 16384);
-    let LiteralOf::Is(other) = conjugate else {
-        return l;
-    };
-    other
+    conjugates::default_conjugate_number(l, 16384).unwrap_or(l)
 }
 
 // The default conjugate of a body literal that was read: "Its default conjugate is itself", where it is u.

@@ -9,7 +9,7 @@ mod numbers;
 ghost use Rattle.std.specs.Prelude.{◌≡◌, true, ℕ, ◌≤◌, ◌<◌, length, get_or};
 ghost use Rattle.ordering.specs.Orders.{Ordered, Written, own, start_at, Visited};
 
-use arrays::{get, wide};
+use arrays::get;
 use counting::sort_by_rank;
 use depth::finishing_order;
 use numbers::lay;
@@ -27,9 +27,9 @@ fn is_order(order: &[u16], ranks: &[u16], count: usize) -> bool
     ensures { result ≡ true → Ordered count order.now ranks.now }
 {
     for k in 0..count {
-        let row = wide(order[k]);
-        let rank = wide(ranks[k]);
-        if count <= row || count <= rank || wide(order[rank]) != k {
+        let row = usize::from(order[k]);
+        let rank = usize::from(ranks[k]);
+        if count <= row || count <= rank || usize::from(order[rank]) != k {
             return false;
         }
     }
@@ -66,7 +66,7 @@ fn visit(order: &[u16], starts: &[u16], visits: &mut [u16], count: usize)
     ensures { Written (start_at order.now starts.now) count visits.old visits.new }
 {
     for i in 0..count {
-        let row = wide(order[i]);
+        let row = usize::from(order[i]);
         visits[i] = starts[row];
     }
 }

@@ -1,17 +1,18 @@
 -- `dual_writer::write_dual` meets its contract.
-use mathlib.Core.Path.{sym, ◌∙◌}
+use Rattle.std.proofs.lemmas.Result.{err_from_is_err_and}
 use Rattle.papers.specs.Reading.{read_file}
-use Rattle.papers.proofs.ReadersGot.{file_refused}
-use Rattle.papers.proofs.ToldLaws.{file_told_lem}
+use Rattle.papers.specs.Answers.{contents_of}
+use Rattle.papers.proofs.ReadersGot.{got_accepted, got_refused, accepted_told}
 use Rattle.dual_writer.specs.WrittenDual.{written_told, dual_told}
 use Rattle.dual_writer.proofs.write_dual.Goals as goal
 
-pub returns-in_default : goal.returns-in_default
+pub returns-in_err-contents : goal.returns-in_err-contents
 unfolding written_told dual_told
-returns-in_default c =
-    let file = c.args.file in
-    let e = file_refused (read_file file.now) (file_told_lem _ c.read_file-read.ensures) (c.in_default.is ∙ c.in-Refused.is) in
-    (rw e, rw e)
+returns-in_err-contents c =
+    let refused = got_refused _ contents_of (read_file c.args.file.now) c.read_file.ensures c.in_err-contents.was in
+    let p = err_from_is_err_and c.from_residual.result c.from_residual.ensures.1 in
+    (rw (refused, p.1, p.2), rw refused)
 
 pub fold_places-places-requires : goal.fold_places-places-requires
-fold_places-places-requires c = sym (file_told_lem _ c.read_file-read.ensures) ∙ c.in-Accepted.is
+fold_places-places-requires c =
+    accepted_told _ _ (got_accepted _ contents_of (read_file c.args.file.now) c.read_file.ensures c.in_ok-contents.was)

@@ -13,8 +13,8 @@ pub loop-k-preserved : goal.loop-k-preserved
 loop-k-preserved c =
     let a = c.args in
     below_more (Placed a.count a.order.now a.ranks.now) c.loop-k.k c.loop-k.invariant
-    (placed_there a.order.now a.ranks.now c.wide-row.ensures.0 c.if-count-row.false c.wide-rank.ensures.0 c.if-count-rank.false c.wide.ensures.0
-    c.if-wide-k.false)
+    (placed_there a.order.now a.ranks.now c.from-row.ensures c.if-count-row.false c.from-rank.ensures c.if-count-rank.false c.from.ensures
+    c.if-from-k.false)
 
 pub returns : goal.returns
 returns c = λ e. record { placed = λ k h. c.loop-k.invariant k (omega arith) }

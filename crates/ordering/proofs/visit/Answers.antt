@@ -14,7 +14,7 @@ bounds-starts-row c =
 pub loop-i-preserved : goal.loop-i-preserved
 loop-i-preserved c =
     let w = c.loop-i.invariant in
-    written_more _ (let s = w.stays.sized in omega arith) (ap (λ (n : ℕ). get_or c.args.starts.now n 0) c.wide-row.ensures.0) w
+    written_more _ (let s = w.stays.sized in omega arith) (ap (λ (n : ℕ). get_or c.args.starts.now n 0) c.from-row.ensures) w
 
 pub returns : goal.returns
 returns c =
