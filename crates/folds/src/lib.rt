@@ -3,11 +3,11 @@
 #![tactic(auto)]
 
 ghost use Rattle.std.specs.Prelude.{◌≡◌, ◌+◌, ◌<◌, length, drop};
-ghost use Rattle.papers.specs.declared.FileRead.{FileRead};
 ghost use Rattle.papers.specs.Program.{all_rules, rule_at};
 ghost use Rattle.papers.specs.Field.{size_of};
 ghost use Rattle.papers.specs.Reading.{read_file, program_in};
-ghost use Rattle.papers.specs.Answers.{file_answer};
+ghost use Rattle.papers.specs.Answers.{contents_of};
+ghost use Rattle.papers.specs.Told.{read_told, tells};
 ghost use Rattle.papers.specs.Places.{Walked, BodyOf};
 
 use literals::{Fold, Objective};
@@ -24,19 +24,15 @@ fn field_end(file: &[u8], place: usize) -> usize
 
 // Where the field of each fold stands, and 0 past the last: there are at most 1,280.
 pub fn fold_places(file: &[u8], contents: Contents) -> [usize; 1280]
-    requires { file_answer (read_file file.now) ≡ FileRead.Accepted contents }
+    requires { read_told contents_of (read_file file.now) ≡ tells contents }
     ensures { Walked file.now contents result }
 {
-    let rules = contents.rules;
-    let integrity = contents.integrity;
-    let count = rules.count + integrity.count;
+    let count = contents.rules.count + contents.integrity.count;
     let mut places = [0usize; 1280];
-    let mut place = rules.place;
-    let mut i: usize = 0;
-    while i < count {
-        places[i] = place;
+    let mut place = contents.rules.place;
+    for slot in &mut places[..count] {
+        *slot = place;
         place = field_end(file, place);
-        i += 1;
     }
     places
 }
@@ -46,10 +42,8 @@ pub fn head_of(file: &[u8], contents: Contents, places: &[usize; 1280], fold: Fo
     requires { Walked file.now contents places.now × (fold.0 < length (all_rules (program_in file.now))) }
     ensures { (result.0 ≡ (rule_at (program_in file.now) fold.0).head) × (result.0 < 513) }
 {
-    let rules = contents.rules;
-    let at = fold.0;
-    if at < rules.count {
-        objective_at(file, places[at] + 3)
+    if fold.0 < contents.rules.count {
+        objective_at(file, places[fold.0] + 3)
     } else {
         literals::falsum(contents.atoms)
     }
@@ -65,15 +59,11 @@ pub fn body_of<'a, 'b>(
     requires { Walked file.now contents places.now × (fold.0 < length (all_rules (program_in file.now))) }
     ensures { BodyOf (rule_at (program_in file.now) fold.0) result.now }
 {
-    let rules = contents.rules;
-    let at = fold.0;
-    let place = places[at];
+    let place = places[fold.0];
     let end = field_end(file, place);
-    if at < rules.count {
-        let start = place + 5;
-        &file[start..end]
+    if fold.0 < contents.rules.count {
+        &file[place + 5..end]
     } else {
-        let start = place + 3;
-        &file[start..end]
+        &file[place + 3..end]
     }
 }

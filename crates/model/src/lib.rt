@@ -9,11 +9,5 @@ pub fn scenario_count(abducibles: usize) -> u32
     requires { abducibles ≤ 16 }
     ensures { result ≡ 3 ^ abducibles }
 {
-    let mut total: u32 = 1;
-    let mut i: usize = 0;
-    while i < abducibles {
-        total = total * 3;
-        i += 1;
-    }
-    total
+    3u32.pow(abducibles as u32)
 }

@@ -8,79 +8,68 @@ use Rattle.papers.specs.Reading.{program_in}
 use Rattle.papers.specs.Places.{BodyOf}
 use Rattle.papers.proofs.FoldsWalked.{fold_few, place_heading, body_there, body_headed, body_bare}
 use Rattle.folds.proofs.body_of.Goals as goal
-use Rattle.folds.proofs.body_of.Goals.{After-field_end-end, After-shared_slice_known-1}
+use Rattle.folds.proofs.body_of.Goals.{After-field_end-end}
 
--- ---- where the file's bytes are known
+pub offset_bounds-places-fold : goal.offset_bounds-places-fold
+offset_bounds-places-fold c =
+    let fits = λ (k : ℕ). (c.type_inv.file k).fits in
+    let few = fold_few c.args.file.now c.args.contents c.args.places.now c.requires.0 fits c.args.fold.0 c.requires.1 in
+    omega arith
 
-module _ (c : After-shared_slice_known-1) where
-  abbrev file : List ℕ
-  file = c.args.file.now
+pub bounds-places-fold : goal.bounds-places-fold
+bounds-places-fold c =
+    fold_few c.args.file.now c.args.contents c.args.places.now c.requires.0 (λ k. (c.type_inv.file k).fits) c.args.fold.0 c.requires.1
 
-  abbrev fold : ℕ
-  fold = c.args.fold.0
-
-  abbrev place : ℕ
-  place = get_or c.args.places.now fold 0
-
-  few : fold < 1280
-  few = fold_few file c.args.contents c.args.places.now c.requires.0 (λ k. (c.type_inv.file k).fits) fold c.requires.1
-
-  heading : place + 2 < length file
-  heading =
-      place_heading file c.args.contents c.args.places.now c.requires.0 (λ k. (c.type_inv.file k).fits) fold c.requires.1
+pub field_end-end-requires : goal.field_end-end-requires
+field_end-end-requires c =
+    place_heading c.args.file.now c.args.contents c.args.places.now c.requires.0 (λ k. (c.type_inv.file k).fits) c.args.fold.0 c.requires.1
 
 -- ---- where the field's end is known
 
 module _ (c : After-field_end-end) where
+  abbrev file : List ℕ
+  file = c.args.file.now
+
   abbrev end : ℕ
   end = c.field_end-end.result
 
+  abbrev place : ℕ
+  place = get_or c.args.places.now c.args.fold.0 0
+
   -- The body is the part of the file between a place and that end.
   abbrev Between : ℕ → Type 0
-  Between from =
-      (from ≤ end)
-      × ((end ≤ length (file (goal.at.After-field_end-end c).After-shared_slice_known-1)) × BodyOf (rule_at (program_in (file (goal.at.After-field_end-end c).After-shared_slice_known-1)) (fold (goal.at.After-field_end-end c).After-shared_slice_known-1)) (take (end - from) (drop from (file (goal.at.After-field_end-end c).After-shared_slice_known-1))))
+  Between from = (from ≤ end) × ((end ≤ length file) × BodyOf (rule_at (program_in file) c.args.fold.0) (take (end - from) (drop from file)))
 
-  after_head : fold (goal.at.After-field_end-end c).After-shared_slice_known-1 < c.args.contents.rules.count → Between (place (goal.at.After-field_end-end c).After-shared_slice_known-1 + 5)
+  after_head : c.args.fold.0 < c.args.contents.rules.count → Between (place + 5)
   after_head h =
-      body_there (file (goal.at.After-field_end-end c).After-shared_slice_known-1) c.args.contents c.args.places.now c.requires.0 (λ k. (c.type_inv.file k).fits) (fold (goal.at.After-field_end-end c).After-shared_slice_known-1) c.requires.1
-      (place (goal.at.After-field_end-end c).After-shared_slice_known-1 + 5) end c.field_end-end.ensures
-      (body_headed (file (goal.at.After-field_end-end c).After-shared_slice_known-1) c.args.contents c.args.places.now c.requires.0 (λ k. (c.type_inv.file k).fits) (fold (goal.at.After-field_end-end c).After-shared_slice_known-1)
-      c.requires.1 h)
+      let fits = λ (k : ℕ). (c.type_inv.file k).fits in
+      body_there file c.args.contents c.args.places.now c.requires.0 fits c.args.fold.0 c.requires.1 (place + 5) end c.field_end-end.ensures
+      (body_headed file c.args.contents c.args.places.now c.requires.0 fits c.args.fold.0 c.requires.1 h)
 
-  after_heading : c.args.contents.rules.count ≤ fold (goal.at.After-field_end-end c).After-shared_slice_known-1 → Between (place (goal.at.After-field_end-end c).After-shared_slice_known-1 + 3)
+  after_heading : c.args.contents.rules.count ≤ c.args.fold.0 → Between (place + 3)
   after_heading h =
-      body_there (file (goal.at.After-field_end-end c).After-shared_slice_known-1) c.args.contents c.args.places.now c.requires.0 (λ k. (c.type_inv.file k).fits) (fold (goal.at.After-field_end-end c).After-shared_slice_known-1) c.requires.1
-      (place (goal.at.After-field_end-end c).After-shared_slice_known-1 + 3) end c.field_end-end.ensures
-      (body_bare (file (goal.at.After-field_end-end c).After-shared_slice_known-1) c.args.contents c.args.places.now c.requires.0 (λ k. (c.type_inv.file k).fits) (fold (goal.at.After-field_end-end c).After-shared_slice_known-1)
-      c.requires.1 h)
+      let fits = λ (k : ℕ). (c.type_inv.file k).fits in
+      body_there file c.args.contents c.args.places.now c.requires.0 fits c.args.fold.0 c.requires.1 (place + 3) end c.field_end-end.ensures
+      (body_bare file c.args.contents c.args.places.now c.requires.0 fits c.args.fold.0 c.requires.1 h)
 
-pub offset_bounds-places-at : goal.offset_bounds-places-at
-offset_bounds-places-at c = omega (arith, few (goal.at.offset_bounds-places-at c).After-shared_slice_known-1)
-
-pub bounds-places-at : goal.bounds-places-at
-bounds-places-at c = few (goal.at.bounds-places-at c).After-shared_slice_known-1
-
-pub field_end-end-requires : goal.field_end-end-requires
-field_end-end-requires c = heading (goal.at.field_end-end-requires c).After-shared_slice_known-1
-
-pub overflow_add-start : goal.overflow_add-start
-overflow_add-start c = let r = after_head (goal.at.overflow_add-start c).After-field_end-end c.if-at-rules.true in omega arith
+pub overflow_add-result : goal.overflow_add-result
+overflow_add-result c = let r = after_head (goal.at.overflow_add-result c).After-field_end-end c.if-fold-contents.true in omega arith
 
 pub slice_bounds-result-count : goal.slice_bounds-result-count
-slice_bounds-result-count c = let r = after_head (goal.at.slice_bounds-result-count c).After-field_end-end c.if-at-rules.true in omega arith
+slice_bounds-result-count c = let r = after_head (goal.at.slice_bounds-result-count c).After-field_end-end c.if-fold-contents.true in omega arith
 
 pub slice_bounds-result-start : goal.slice_bounds-result-start
-slice_bounds-result-start c = let r = after_head (goal.at.slice_bounds-result-start c).After-field_end-end c.if-at-rules.true in omega arith
+slice_bounds-result-start c = let r = after_head (goal.at.slice_bounds-result-start c).After-field_end-end c.if-fold-contents.true in omega arith
 
 pub slice_bounds-result-end : goal.slice_bounds-result-end
-slice_bounds-result-end c = (after_head (goal.at.slice_bounds-result-end c).After-field_end-end c.if-at-rules.true).1.0
+slice_bounds-result-end c = (after_head (goal.at.slice_bounds-result-end c).After-field_end-end c.if-fold-contents.true).1.0
 
-pub slice_bounds-result-end-else-at-rules : goal.slice_bounds-result-end-else-at-rules
-slice_bounds-result-end-else-at-rules c = (after_heading (goal.at.slice_bounds-result-end-else-at-rules c).After-field_end-end c.if-at-rules.false).1.0
+pub slice_bounds-result-end-else-fold-contents : goal.slice_bounds-result-end-else-fold-contents
+slice_bounds-result-end-else-fold-contents c =
+    (after_heading (goal.at.slice_bounds-result-end-else-fold-contents c).After-field_end-end c.if-fold-contents.false).1.0
 
-pub returns-then-at-rules : goal.returns-then-at-rules
-returns-then-at-rules c = (after_head (goal.at.returns-then-at-rules c).After-field_end-end c.if-at-rules.true).1.1
+pub returns-then-fold-contents : goal.returns-then-fold-contents
+returns-then-fold-contents c = (after_head (goal.at.returns-then-fold-contents c).After-field_end-end c.if-fold-contents.true).1.1
 
-pub returns-else-at-rules : goal.returns-else-at-rules
-returns-else-at-rules c = (after_heading (goal.at.returns-else-at-rules c).After-field_end-end c.if-at-rules.false).1.1
+pub returns-else-fold-contents : goal.returns-else-fold-contents
+returns-else-fold-contents c = (after_heading (goal.at.returns-else-fold-contents c).After-field_end-end c.if-fold-contents.false).1.1
