@@ -12,10 +12,8 @@ pub fn copy_numbers(bytes: &[u8], values: &mut [u16], at: usize)
     requires { at + length (numbers bytes.now) ≤ length values.old }
     ensures { values.new ≡ laid at (numbers bytes.now) values.old }
 {
-    let count = bytes.len() / 2;
-    let mut i: usize = 0;
-    while i < count {
+    // An index: number i stands at 2i of the bytes, and goes to i after `at`.
+    for i in 0..bytes.len() / 2 {
         values[at + i] = number_at(bytes, 2 * i) as u16;
-        i += 1;
     }
 }

@@ -1,10 +1,6 @@
 -- `copying::copy_numbers` meets its contract. The loop's invariant: the first i numbers are copied.
-use Prim.Native.Nat.{◌-◌, ◌≤◌}
 use Rattle.copying.proofs.CopyLaws.{CopiedTo}
 use Rattle.copying.proofs.copy_numbers.Given as goal
 
 abbrev pub invariant-loop-i : goal.invariant-loop-i
-invariant-loop-i l = (l.i ≤ l.count) × CopiedTo l.bytes l.initial.values l.at l.i l.values
-
-abbrev pub decreases-loop-i : goal.decreases-loop-i
-decreases-loop-i l = l.count - l.i
+invariant-loop-i l = CopiedTo l.bytes l.initial.values l.at l.i l.values
