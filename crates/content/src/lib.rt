@@ -1,26 +1,27 @@
 // The tests of a field's content, each of which answers the first fault that it finds.
 #![tactic(auto)]
 
-ghost use Rattle.std.specs.Prelude.{◌≡◌, ◌+◌, ◌<◌, length};
+ghost use Rattle.std.specs.Prelude.{◌≡◌, ◌<◌, length};
 ghost use Rattle.papers.specs.Field.{number_in, numbers};
 ghost use Rattle.papers.specs.Content.{abducibles_fault, literal_allowed, literals_fault, is_among, rule_fault, body_fault};
 ghost use Rattle.papers.specs.Told.{check_told};
 
-use literals::Atom;
+use conjugates::atom_of;
 use literals::bodies::is_body_listed;
+use literals::{Atom, is_literal_listed};
 use numbered::{atom_at, body_literal_at, literal_at, objective_at};
 use papers::{Fault, tags};
 
-// Whether the literal at a place may stand there: in a body it may be u.
+// Whether the literal that these two bytes begin with may stand there: in a body it may be u.
 #[tactic(auto, unfolding(papers::specs::Content::literal_allowed))]
-fn is_allowed(content: &[u8], place: usize, atoms: u16, in_body: bool) -> bool
-    requires { place + 1 < length content.now }
-    ensures { result ≡ literal_allowed in_body atoms (number_in content.now place) }
+fn is_allowed(pair: &[u8], atoms: u16, in_body: bool) -> bool
+    requires { 1 < length pair.now }
+    ensures { result ≡ literal_allowed in_body atoms (number_in pair.now 0) }
 {
     if in_body {
-        is_body_listed(body_literal_at(content, place), atoms)
+        is_body_listed(body_literal_at(pair, 0), atoms)
     } else {
-        literals::is_literal_listed(literal_at(content, place), atoms)
+        is_literal_listed(literal_at(pair, 0), atoms)
     }
 }
 
@@ -28,8 +29,8 @@ fn is_allowed(content: &[u8], place: usize, atoms: u16, in_body: bool) -> bool
 pub fn check_literals(content: &[u8], atoms: u16, in_body: bool) -> Result<(), Fault>
     ensures { check_told result ≡ literals_fault in_body atoms (numbers content.now) }
 {
-    for i in 0..content.len() / 2 {
-        if !is_allowed(content, 2 * i, atoms, in_body) {
+    for pair in content.chunks_exact(2) {
+        if !is_allowed(pair, atoms, in_body) {
             return Err(Fault::Unlisted);
         }
     }
@@ -40,8 +41,8 @@ pub fn check_abducibles(content: &[u8], atoms: u16) -> Result<(), Fault>
     ensures { check_told result ≡ abducibles_fault atoms 0 (numbers content.now) }
 {
     let mut least: u32 = 0;
-    for i in 0..content.len() / 2 {
-        let atom = u32::from(atom_at(content, 2 * i).0);
+    for pair in content.chunks_exact(2) {
+        let atom = u32::from(atom_at(pair, 0).0);
         if u32::from(atoms) <= atom {
             return Err(Fault::Unlisted);
         }
@@ -56,8 +57,8 @@ pub fn check_abducibles(content: &[u8], atoms: u16) -> Result<(), Fault>
 pub fn is_among(abducibles: &[u8], atom: Atom) -> bool
     ensures { result ≡ is_among (numbers abducibles.now) atom.0 }
 {
-    for i in 0..abducibles.len() / 2 {
-        if atom_at(abducibles, 2 * i).0 == atom.0 {
+    for pair in abducibles.chunks_exact(2) {
+        if atom_at(pair, 0).0 == atom.0 {
             return true;
         }
     }
@@ -69,7 +70,7 @@ fn check_rule(content: &[u8], abducibles: &[u8], atoms: u16) -> Result<(), Fault
     requires { 1 < length content.now }
     ensures { check_told result ≡ rule_fault atoms (numbers abducibles.now) (numbers content.now) }
 {
-    let Some(atom) = conjugates::atom_of(objective_at(content, 0), atoms) else {
+    let Some(atom) = atom_of(objective_at(content, 0), atoms) else {
         return Err(Fault::Unlisted);
     };
     if is_among(abducibles, atom) {

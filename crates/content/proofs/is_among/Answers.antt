@@ -1,17 +1,37 @@
--- `content::is_among` meets its contract. The loop's invariant: what is asked of all abducibles is asked of those from the i-th on.
-use mathlib.Core.Path.{sym, ◌∙◌}
+-- `content::is_among` meets its contract. The loop's invariant: what is asked of all abducibles is asked of those that are left.
+use mathlib.Core.Path.{sym, ap, ◌∙◌}
+use native.Mathlib.Omega.{arith}
+use Rattle.std.specs.Slice.Iter.{chunks_exact_rest, chunks_exact_size}
+use Rattle.papers.specs.Field.{numbers}
+use Rattle.papers.specs.Content.{is_among}
 use Rattle.papers.proofs.NumbersWalked.{among_done, among_stop, among_next}
 use Rattle.content.proofs.is_among.Goals as goal
 
+pub loop-pair-init : goal.loop-pair-init
+loop-pair-init c =
+    let x = c.chunks_exact-pair-items.ensures in
+    let e = c.into_iter-pair-iterator.ensures.into_iter_gives in
+    (ap (λ s. chunks_exact_size s) e ∙ x.size, ap (λ l. is_among (numbers l) c.args.atom.0) (sym (ap (λ s. chunks_exact_rest s) e ∙ x.rest)))
+
+pub atom_at-requires : goal.atom_at-requires
+atom_at-requires c = let two = c.in-Some.ensures.steps.1.1 ∙ c.loop-pair.invariant.0 in omega arith
+
 pub returns-then-atom_at-atom : goal.returns-then-atom_at-atom
 returns-then-atom_at-atom c =
-    let a = c.args in
-    sym (c.loop-i.invariant ∙ among_stop a.abducibles.now _ a.atom.0 c.loop-i-test.true c.atom_at.ensures c.if-atom_at-atom.true)
+    let s = c.in-Some.ensures.steps in
+    sym
+    (c.loop-pair.invariant.1
+    ∙ among_stop c.args.atom.0 _ _ _ s.1.0 (s.1.1 ∙ c.loop-pair.invariant.0) c.atom_at.ensures c.if-atom_at-atom.true)
 
-pub loop-i-preserved : goal.loop-i-preserved
-loop-i-preserved c =
-    let a = c.args in
-    c.loop-i.invariant ∙ among_next a.abducibles.now _ a.atom.0 c.loop-i-test.true c.atom_at.ensures c.if-atom_at-atom.false
+pub loop-pair-preserved : goal.loop-pair-preserved
+loop-pair-preserved c =
+    let s = c.in-Some.ensures.steps in (
+      s.0 ∙ c.loop-pair.invariant.0,
+      c.loop-pair.invariant.1 ∙ among_next c.args.atom.0 _ _ _ s.1.0 (s.1.1 ∙ c.loop-pair.invariant.0) c.atom_at.ensures c.if-atom_at-atom.false,
+    )
 
 pub returns : goal.returns
-returns c = let a = c.args in sym (c.loop-i.invariant ∙ among_done a.abducibles.now _ a.atom.0 c.loop-i-test.false)
+returns c =
+    let ends = c.in-None.ensures.steps.1.0 in
+    let size = c.loop-pair.invariant.0 in
+    sym (c.loop-pair.invariant.1 ∙ among_done c.args.atom.0 _ (omega arith))
