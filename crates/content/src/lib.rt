@@ -58,7 +58,7 @@ pub fn is_among(abducibles: &[u8], atom: Atom) -> bool
     ensures { result ≡ is_among (numbers abducibles.now) atom.0 }
 {
     for pair in abducibles.chunks_exact(2) {
-        if atom_at(pair, 0).0 == atom.0 {
+        if atom_at(pair, 0) == atom {
             return true;
         }
     }

@@ -1,6 +1,7 @@
 -- `content::is_among` meets its contract. The loop's invariant: what is asked of all abducibles is asked of those that are left.
 use mathlib.Core.Path.{sym, ap, ◌∙◌}
 use native.Mathlib.Omega.{arith}
+use borrow.Author.Tests.{eqb-true, eqb-false}
 use Rattle.std.specs.Slice.Iter.{chunks_exact_rest, chunks_exact_size}
 use Rattle.papers.specs.Field.{numbers}
 use Rattle.papers.specs.Content.{is_among}
@@ -16,18 +17,18 @@ loop-pair-init c =
 pub atom_at-requires : goal.atom_at-requires
 atom_at-requires c = let two = c.in-Some.ensures.steps.1.1 ∙ c.loop-pair.invariant.0 in omega arith
 
-pub returns-then-atom_at-atom : goal.returns-then-atom_at-atom
-returns-then-atom_at-atom c =
+pub returns-then-eq : goal.returns-then-eq
+returns-then-eq c =
     let s = c.in-Some.ensures.steps in
     sym
     (c.loop-pair.invariant.1
-    ∙ among_stop c.args.atom.0 _ _ _ s.1.0 (s.1.1 ∙ c.loop-pair.invariant.0) c.atom_at.ensures c.if-atom_at-atom.true)
+    ∙ among_stop c.args.atom.0 _ _ _ s.1.0 (s.1.1 ∙ c.loop-pair.invariant.0) c.atom_at.ensures (eqb-true _ _ (sym c.eq.ensures ∙ c.if-eq.true)))
 
 pub loop-pair-preserved : goal.loop-pair-preserved
 loop-pair-preserved c =
     let s = c.in-Some.ensures.steps in (
       s.0 ∙ c.loop-pair.invariant.0,
-      c.loop-pair.invariant.1 ∙ among_next c.args.atom.0 _ _ _ s.1.0 (s.1.1 ∙ c.loop-pair.invariant.0) c.atom_at.ensures c.if-atom_at-atom.false,
+      c.loop-pair.invariant.1 ∙ among_next c.args.atom.0 _ _ _ s.1.0 (s.1.1 ∙ c.loop-pair.invariant.0) c.atom_at.ensures (eqb-false _ _ (sym c.eq.ensures ∙ c.if-eq.false)),
     )
 
 pub returns : goal.returns
