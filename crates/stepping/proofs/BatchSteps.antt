@@ -125,3 +125,30 @@ module _ {k total explained : ℕ} {rounds : List ℕ} where
               let e = so_far.is P i in
               steps_short P lane count (work_of s₀ l₀) h (rw e few) ∙ e;
         }
+
+-- Each lane below this one was tried, and the first entries, which all lanes are compared with at once, stay.
+pub record SoFar (k total explained : ℕ) (rounds : List ℕ) (first lane : ℕ) (s₀ : Progress) (l₀ : List ℕ) (s : Progress) (l : List ℕ)
+    : Type 0 where
+  pub all : s.tried ≡ s₀.tried + lane
+  pub compared : first ≤ s.found
+  pub same : take first l ≡ take first l₀
+  pub steps : LanesTried k total explained rounds lane s₀ l₀ s l
+
+module _ {k total explained : ℕ} {rounds : List ℕ} {first lane : ℕ} {s₀ : Progress} {l₀ : List ℕ} {s : Progress} {l : List ℕ}
+    (so_far : SoFar k total explained rounds first lane s₀ l₀ s l) (inside : lane < 64)
+    {unlisted : ℕ} (w : Without k s₀.position (take first l₀) explained unlisted) {new : Bool} (q : new ≡ lane_bit lane unlisted)
+    {s' : Progress} {l' : List ℕ} (one : LaneTried k total first new (get_or rounds lane 0) s l s' l') where
+  with_this : LanesTried k total explained rounds (lane + 1) s₀ l₀ s' l'
+  with_this = lanes_next so_far.steps so_far.all inside w so_far.same q one
+
+  -- This one is tried too,
+  pub so_far_more : s'.tried ≡ s.tried + 1 → SoFar k total explained rounds first (lane + 1) s₀ l₀ s' l'
+  so_far_more more =
+      let before = so_far.all in
+      let compared = so_far.compared in
+      let grown = one.grown in
+      record { all = omega arith; compared = omega arith; same = one.same _ compared ∙ so_far.same; steps = with_this }
+
+  -- or it stands still.
+  pub so_far_ends : {count : ℕ} → lane < count → s'.tried ≡ s.tried → LanesTried k total explained rounds count s₀ l₀ s' l'
+  so_far_ends h still = let before = so_far.all in lanes_short with_this (omega arith) (omega arith)

@@ -5,7 +5,7 @@ mod contained;
 mod digitwise;
 
 ghost use Rattle.std.specs.Prelude.{◌≡◌, ◌≤◌, ◌<◌, ◌^◌, length};
-ghost use Rattle.stepping.specs.Stepping.{Decided, LaneReady, LaneTried, LanesReady, LanesTried};
+ghost use Rattle.stepping.specs.Stepping.{Decided, LanesReady, LanesTried};
 
 use contained::new_lanes;
 use digitwise::contains_one;
@@ -53,41 +53,6 @@ pub struct Progress {
     pub rounds: u64,
 }
 
-// One step: the scenario at the position is tried, and written where it is new, or the search stands still.
-fn try_lane(
-    list: &mut [u32],
-    k: usize,
-    total: u32,
-    first: usize,
-    new: bool,
-    rounds: u64,
-    before: Progress,
-) -> Progress
-    requires { LaneReady k total first rounds before list.old }
-    ensures { LaneTried k total first new rounds before list.old result list.new }
-{
-    let at = before.found as usize;
-    let step = decide(k, total, list, before.position, first, at, new);
-    match step {
-        Move::Stands => before,
-        Move::Tries => Progress {
-            position: before.position + 1,
-            tried: before.tried + 1,
-            rounds: before.rounds + rounds,
-            ..before
-        },
-        Move::Writes => {
-            list[at] = before.position;
-            Progress {
-                position: before.position + 1,
-                found: before.found + 1,
-                tried: before.tried + 1,
-                rounds: before.rounds + rounds,
-            }
-        }
-    }
-}
-
 // The steps of up to 64 scenarios, from the position on: lane l of `explained` says whether scenario l of them is an explanation, and
 // `rounds` has its round count. The entries found before are compared with all of them at once.
 pub fn try_lanes(
@@ -106,12 +71,20 @@ pub fn try_lanes(
     let new = new_lanes(k, &list[..found], before.position, count, explained);
     let mut reached = before;
     for (lane, rounds) in rounds[..count].iter().enumerate() {
-        let tried = reached.tried;
         let unlisted = in_lane(new.lanes, lane);
-        reached = try_lane(list, k, total, new.entries, unlisted, *rounds, reached);
-        if reached.tried == tried {
-            return reached;
+        let at = reached.found as usize;
+        let step = decide(k, total, list, reached.position, new.entries, at, unlisted);
+        match step {
+            Move::Stands => return reached,
+            Move::Tries => {}
+            Move::Writes => {
+                list[at] = reached.position;
+                reached.found += 1;
+            }
         }
+        reached.position += 1;
+        reached.tried += 1;
+        reached.rounds += *rounds;
     }
     reached
 }
