@@ -38,7 +38,7 @@ held_most P m s b h = go (agrees P.abducibles m s)
 
 -- ---- no fault held
 
-none_passed : (k : ℕ) → masks_tested k (masks 0 0) ≡ Ok tt
+pub none_passed : (k : ℕ) → masks_tested k (masks 0 0) ≡ Ok tt
 none_passed k = tested_passed k (masks 0 0) (omega arith) refl refl (omega arith) (zero-div (2 ^ k))
 
 pub none_agrees : (k : ℕ) (m : Masks) (s : ℕ) → m.assumed ≡ 0 → m.ruled ≡ 0 → agrees k m s ≡ true

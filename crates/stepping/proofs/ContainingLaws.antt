@@ -5,14 +5,14 @@ use mathlib.Core.Bool.{Bool, true, false, not}
 use mathlib.Core.List.{List, [], ◌∷◌}
 use Prim.Native.Nat.{ℕ, zero, suc, ◌+◌, ◌-◌, ◌/◌, ◌%◌, ◌^◌, ◌<◌, ◌≤◌}
 use native.Mathlib.Decide.{ℕ_discrete}
-use native.Mathlib.Nat.{div-one, div-div-eq-div-mul}
+use native.Mathlib.Nat.{div-div-eq-div-mul}
 use native.Mathlib.Omega.{arith}
 use native.Mathlib.Numerals.{add-one}
 use borrow.Author.Tests.{eq-eqb, ne_eqb}
 use lib.Bits.{bit_and}
 use lib.Dec.{eqb}
-use lib.ListN.{length, get_or, drop, drop_of_length-le, set, replicate, length-set, length-replicate}
-use lib.Seq.{get_or-set_same, get_or-set_other, drop-cons, take-length}
+use lib.ListN.{length, get_or, drop, drop_of_length-le, set, length-set}
+use lib.Seq.{get_or-set_same, get_or-set_other, drop-cons}
 use Rattle.digits.proofs.Powers.{power_next}
 use Rattle.papers.specs.Tests.{◌and◌, ◌or◌}
 use Rattle.papers.proofs.TestLaws.{and_true, and_assoc, false_and}
@@ -21,7 +21,7 @@ use Rattle.lanes.proofs.LaneLaws.{lane_and, lane_not, lane_full, lane_none}
 use Rattle.digits.specs.Digits.{DigitLanes}
 use Rattle.steps.specs.Explanations.{part_digit, part_of}
 use Rattle.steps.specs.Continuing.{contains_one}
-use Rattle.stepping.specs.Containing.{DigitTable, EntryLanes, Without, LanesLeft, NewToFirst}
+use Rattle.stepping.specs.Containing.{DigitTable, EntryLanes, LanesLeft, NewToFirst}
 use Rattle.stepping.proofs.PartLoops.{part_done}
 
 -- ---- the table
@@ -43,12 +43,6 @@ other_digit d e z = elim (ℕ_discrete e d) [
 pub record Tabled (i base : ℕ) (table : List (List ℕ)) : Type 0 where
   pub size : length table ≡ 16
   pub done : DigitTable i base table
-
-pub tabled_none : (base : ℕ) (row : List ℕ) → Tabled 0 base (replicate 16 row)
-tabled_none base row = record {
-  size = length-replicate {A = List ℕ} 16 row;
-  done = record { at = λ i d l h. absurd (omega arith) };
-}
 
 module _ (i base : ℕ) (table : List (List ℕ)) (few : i < 16) (so_far : Tabled i base table) {power : ℕ} (raised : power ≡ 3 ^ i) (assumed ruled : ℕ)
     (one : DigitLanes base power 1 assumed) (two : DigitLanes base power 2 ruled) where
@@ -99,9 +93,6 @@ pub record EntryTo (k : ℕ) (table : List (List ℕ)) (entry lanes i word rest 
       → (lane_bit l lanes and part_of k entry (base + l)) ≡ (lane_bit l word and part_of (k - i) rest ((base + l) / 3 ^ i))
 
 module _ (k : ℕ) (table : List (List ℕ)) (entry lanes : ℕ) where
-  pub entry_starts : EntryTo k table entry lanes 0 lanes entry
-  entry_starts = record { at = λ base t l h. let e : k - 0 ≡ k = omega arith in rw (e, div-one (base + l)) }
-
   module _ (i word rest : ℕ) (so_far : EntryTo k table entry lanes i word rest) where
     pub entry_next : i < k → EntryTo k table entry lanes (i + 1) (bit_and word (get_or (get_or table i []) (rest % 3) 0)) (rest / 3)
     entry_next inside = record {
@@ -160,9 +151,6 @@ left_by true false c = refl
 left_by false p c = refl
 
 module _ (k : ℕ) (table : List (List ℕ)) (entries : List ℕ) (lanes : ℕ) where
-  pub left_starts : LeftTo k table entries lanes entries lanes
-  left_starts = record { at = λ base t l h. refl }
-
   module _ (i left : ℕ) (so_far : LeftTo k table entries lanes (drop i entries) left) where
     pub left_next : i < length entries → (contained : ℕ) → contained < 18446744073709551616 → EntryLanes k table (get_or entries i 0) left contained
         → LeftTo k table entries lanes (drop (i + 1) entries) (bit_and left (18446744073709551615 - contained))
@@ -201,7 +189,3 @@ new_uncompared k base list found explained = record {
   few = omega arith;
   without = record { at = λ l h. sym (and_true (lane_bit l explained)) };
 }
-
-pub new_compared : {k base : ℕ} {found : List ℕ} {explained lanes : ℕ} → Without k base found explained lanes
-    → NewToFirst k base found (length found) explained (record { lanes = lanes; entries = length found })
-new_compared {found = found} w = record { few = omega arith; without = rw (take-length found) w }

@@ -1,7 +1,5 @@
 -- The laws of the search over any problem.
 
--- The first n entries of a list, from index i on.
-pub mod Entries
 -- Part-of is an order, and reads digit by digit.
 pub mod PartOfLaws
 -- What it is to be minimal; every explanation contains a minimal one.

@@ -1,11 +1,11 @@
 -- The lanes below `lane` are tried.
-use mathlib.Core.Path.{◌≡◌, refl, subst}
-use Prim.Native.Nat.{ℕ, ◌<◌, ◌≤◌}
+use mathlib.Core.Path.{refl}
+use Prim.Native.Nat.{◌<◌, ◌≤◌}
 use native.Mathlib.Omega.{arith}
 use lib.ListN.{get_or, take}
 use lib.Seq.{take-take, get_or-take, length-take-le}
 use Rattle.stepping.specs.Containing.{Without}
-use Rattle.stepping.specs.Stepping.{LaneReady, LanesTried}
+use Rattle.stepping.specs.Stepping.{LaneReady}
 use Rattle.stepping.proofs.BatchSteps.{lane_stands, lane_tries, lane_writes, lanes_none, so_far_more, so_far_ends}
 use Rattle.stepping.proofs.try_lanes.Goals as goal
 use Rattle.stepping.proofs.try_lanes.Goals.{After-new_lanes-new, After-decide-step, in-Tries, in-Writes}
@@ -65,10 +65,3 @@ loop-lane-preserved c =
       | in-Writes w ↦ rw (w.list-is, w.reached-is, rounds) (
           so_far_more c.loop-lane.invariant (omega arith) (before place) unlisted (lane_writes (ready place) decided w.in-Writes.is) refl)
     ]
-
-pub returns : goal.returns
-returns c =
-    let a = c.args in
-    let loop = c.loop-lane in
-    let e : loop.lane ≡ a.count = omega (arith, length-take-le a.count a.rounds.now (omega arith)) in
-    subst (λ (n : ℕ). LanesTried a.k a.total a.explained a.rounds.now n a.before a.list.now loop.reached loop.list) e loop.invariant.steps

@@ -1,13 +1,13 @@
 -- The faults behind are looked at.
-use mathlib.Core.Path.{◌≡◌, refl, sym, ap, subst, ◌∙◌}
+use mathlib.Core.Path.{◌≡◌, refl, sym, ap, ◌∙◌}
 use mathlib.Core.Bool.{cond}
-use Prim.Native.Nat.{ℕ, ◌-◌, ◌%◌}
+use Prim.Native.Nat.{◌-◌, ◌%◌}
 use native.Mathlib.Nat.{mod-lt}
 use native.Mathlib.Omega.{arith}
 use Rattle.lanes.specs.Lanes.{lane_bit}
 use Rattle.digits.proofs.Powers.{power_fits, power_next}
 use Rattle.agreeing.proofs.AgreeingLaws.{free_agrees}
-use Rattle.agreeing.proofs.RunLaws.{Passing, passing_begun, passing_next}
+use Rattle.agreeing.proofs.RunLaws.{passing_begun, passing_next}
 use Rattle.agreeing.proofs.runs.disagreeing_run.Goals as goal
 use Rattle.agreeing.proofs.runs.disagreeing_run.Goals.{then-disagrees, else-disagrees}
 
@@ -48,11 +48,3 @@ loop-i-preserved c =
       power_next loop.power loop.i power,
       passing_next loop.invariant.1 (omega arith) power (power_fits power (omega arith)).0 assumed ruled c.disagrees.ensures run,
     )
-
-pub returns : goal.returns
-returns c =
-    let a = c.args in
-    let loop = c.loop-i in
-    let all : loop.i ≡ a.k = omega arith in
-    let passing = subst (λ (n : ℕ). Passing a.k n a.held a.scenario loop.run) all loop.invariant.1 in
-    record { none = passing.none; first = passing.first }

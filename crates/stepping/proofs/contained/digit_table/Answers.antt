@@ -1,11 +1,8 @@
 -- The digits behind have their words.
 use native.Mathlib.Omega.{arith}
 use Rattle.digits.proofs.Powers.{power_fits, power_next}
-use Rattle.stepping.proofs.ContainingLaws.{tabled_none, tabled_more}
+use Rattle.stepping.proofs.ContainingLaws.{tabled_more}
 use Rattle.stepping.proofs.contained.digit_table.Goals as goal
-
-pub loop-i-init : goal.loop-i-init
-loop-i-init c = (omega arith, tabled_none c.args.base _)
 
 pub digit_lanes-words-requires : goal.digit_lanes-words-requires
 digit_lanes-words-requires c = power_fits c.loop-i.invariant.0 (omega arith)

@@ -3,12 +3,9 @@ use Prim.Native.Nat.{◌<◌}
 use mathlib.Core.List.{[]}
 use native.Mathlib.Omega.{arith}
 use lib.Seq.{get_or-take}
-use Rattle.stepping.proofs.ContainingLaws.{entry_starts, entry_next, entry_zero, entry_none, entry_ends}
+use Rattle.stepping.proofs.ContainingLaws.{entry_next, entry_zero, entry_none, entry_ends}
 use Rattle.stepping.proofs.contained.entry_lanes.Goals as goal
 use Rattle.stepping.proofs.contained.entry_lanes.Goals.{then-rest-eq0-via-then-rest-eq0, then-rest-eq0-via-else-rest-eq0+then-word-eq0}
-
-pub loop-words-init : goal.loop-words-init
-loop-words-init c = entry_starts _ _ _ _
 
 pub returns-then-rest-eq0 : goal.returns-then-rest-eq0
 returns-then-rest-eq0 c = elim c.then-rest-eq0.branch [

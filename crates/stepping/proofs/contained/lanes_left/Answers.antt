@@ -1,11 +1,8 @@
 -- The entries from this one on are compared with the lanes left.
 use native.Mathlib.Omega.{arith}
 use borrow.Author.Rules.{rules}
-use Rattle.stepping.proofs.ContainingLaws.{left_starts, left_next, left_none, left_ends}
+use Rattle.stepping.proofs.ContainingLaws.{left_next, left_none, left_ends}
 use Rattle.stepping.proofs.contained.lanes_left.Goals as goal
-
-pub loop-entry-init : goal.loop-entry-init
-loop-entry-init c = left_starts _ _ _ _
 
 pub returns-then-left-eq0 : goal.returns-then-left-eq0
 returns-then-left-eq0 c = left_none _ _ _ _ _ _ c.loop-entry.invariant c.if-left-eq0.true
