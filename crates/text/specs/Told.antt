@@ -20,6 +20,10 @@ text_fault_number (File fault) = fault_number fault
 abbrev pub refusal_of : TextRefusal → lines.TextRefusal
 refusal_of r = lines.text_refusal (text_fault_number r.fault) r.place
 
+unfoldable pub reading_told : {A : Type 0} → Result A TextRefusal → lines.Reading A
+reading_told (Ok a) = lines.accepted a
+reading_told (Err r) = lines.refused (refusal_of r)
+
 -- The first character of a token, and its number: an atom's, and 0 for any other token.
 abbrev pub kind_of : Token → ℕ
 kind_of Abducible = 0x61

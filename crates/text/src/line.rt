@@ -7,6 +7,7 @@ ghost use Rattle.text.specs.LineAnswers.{ended_briefly, LineTells};
 
 use crate::token::{Scanned, Token, next_token};
 use crate::{TextFault, TextRefusal};
+use papers::tags;
 
 // What a line types.
 #[derive(Clone, Copy, PartialEq, Eq, Debug)]
@@ -22,9 +23,9 @@ impl LineKind {
         ensures { result ≡ tag_byte self }
     {
         match self {
-            LineKind::Abducible => 3,
-            LineKind::Rule => 4,
-            LineKind::Integrity => 5,
+            LineKind::Abducible => tags::ABDUCIBLES,
+            LineKind::Rule => tags::RULE,
+            LineKind::Integrity => tags::INTEGRITY,
         }
     }
 }
