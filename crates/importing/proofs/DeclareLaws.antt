@@ -11,20 +11,18 @@ use lib.Dec.{eqb}
 use lib.ListN.{length, get_or, set, length-set, replicate}
 use Rattle.papers.specs.Content.{is_among}
 use Rattle.papers.specs.Valid.{All, each}
-use Rattle.papers.proofs.Checks.{both}
 use Rattle.text.specs.declared.line.Brief.{Brief}
-use Rattle.text.specs.declared.line.LineRead.{LineRead}
-use Rattle.text.specs.declared.line.LineRead.TheVariants as read
 use Rattle.text.specs.Lines.{accepted, refused, text_refusal, Line, abducible, rule, integrity, fresh, lines_of}
 use Rattle.text.specs.Typed.{Placed, placed, its, declared_in, program_typed}
 use Rattle.text.specs.Importing.{overfull_at, import_text}
-use Rattle.text.specs.Briefly.{tag_of, start_of, atom_of, brief}
-use Rattle.text.specs.LineAnswers.{LineTells}
+use Rattle.text.specs.Briefly.{tag_of, tag_byte, start_of, atom_of, brief}
+use Rattle.text.specs.LineAnswers.{LineEnds}
+use Rattle.text.proofs.BriefLaws.{kind_tag}
 use Rattle.text.proofs.Printed.{Printable, abducible_fits}
 use Rattle.text.proofs.Fitting.{all_split, text_fits}
 use Rattle.text.proofs.Passes.{new_among, import_checks, abducibles_counted}
 use Rattle.importing.specs.Passes.{lines_in, Typed, typed, declared_names, new_in, Flagged}
-use Rattle.importing.proofs.LinesWalked.{its_append, LinesRead, lines_start, met, lines_on, lines_split, all_done}
+use Rattle.importing.proofs.LinesWalked.{its_append, LinesRead, lines_start, lines_on, lines_split, all_done}
 
 -- ---- one line
 
@@ -50,9 +48,9 @@ pub start_is : (line : Line) → (brief line).start ≡ start_of line
 unfolding brief
 start_is line = refl
 
-pub tag_is : (line : Line) → (brief line).tag ≡ tag_of line
+pub tag_is : (line : Line) → tag_byte (brief line).kind ≡ tag_of line
 unfolding brief
-tag_is line = refl
+tag_is line = kind_tag line
 
 declared_small : (line : Line) → tag_of line ≡ 0x03 → Printable line → atom_of line < 256
 unfolding tag_of atom_of
@@ -148,7 +146,8 @@ module _ (seen : List ℕ) (line : Line) where
       ∙ ap (λ (l : List ℕ). l ++ later) (its_append (declared_in done) (declared_in (line ∷ [])))
       ∙ append_assoc (map its (declared_in done)) (map its (declared_in (line ∷ []))) later
 
-  places_more : (done : List Line) (later : List (Placed ℕ)) → declared_in (done ++ (line ∷ [])) ++ later ≡ declared_in done ++ (declared_in (line ∷ []) ++ later)
+  places_more : (done : List Line) (later : List (Placed ℕ)) → declared_in (done ++ (line ∷ [])) ++ later
+      ≡ declared_in done ++ (declared_in (line ∷ []) ++ later)
   places_more done later =
       ap (λ (l : List (Placed ℕ)). l ++ later) (declared_append done (line ∷ [])) ∙ append_assoc (declared_in done) (declared_in (line ∷ [])) later
 
@@ -218,112 +217,118 @@ module _ (text : List ℕ) (was : Typed text) {flags : List Bool} {room at : ℕ
         (let z = none_new g.seen in omega arith),
       )
 
-  module _ {got : LineRead} (told : LineTells text fresh at got) where
-    module _ {b : Brief} {after : ℕ} (e : got ≡ read.Line b after) where
-      abbrev line : Line
-      line = (met g.walked told e).line
+  module _ {b : Brief} {after : ℕ} (m : LineEnds text fresh at b after) where
+    abbrev line : Line
+    line = m.line
 
-      abbrev is : b ≡ brief line
-      is = (met g.walked told e).briefly
+    abbrev is : b ≡ brief line
+    is = m.briefly
 
-      abbrev walked : LinesRead text (g.done ++ (line ∷ [])) after
-      walked = lines_on g.walked told e
+    abbrev walked : LinesRead text (g.done ++ (line ∷ [])) after
+    walked = lines_on g.walked m
 
-      atom_here : b.atom ≡ atom_of line
-      atom_here = ap (λ (x : Brief). x.atom) is ∙ atom_is line
+    atom_here : b.atom ≡ atom_of line
+    atom_here = ap (λ (x : Brief). x.atom) is ∙ atom_is line
 
-      -- Its atom is below 256, as all of the text's are.
-      small : tag_of line ≡ 0x03 → atom_of line < 256
-      small t =
-          let s = lines_split text was walked in
-          let all = rw s.1 at (text_fits text (lines_in text) was) in
-          declared_small line t (head_of (all_split g.done (line ∷ []) (all_split (g.done ++ (line ∷ [])) s.0 all).0).1)
-        where
-          head_of : All Printable (line ∷ []) → Printable line
-          head_of (each h hs) = h
+    -- Its atom is below 256, as all of the text's are.
+    small : tag_of line ≡ 0x03 → atom_of line < 256
+    small t =
+        let s = lines_split text was walked in
+        let all = rw s.1 at (text_fits text (lines_in text) was) in
+        declared_small line t (head_of (all_split g.done (line ∷ []) (all_split (g.done ++ (line ∷ [])) s.0 all).0).1)
+      where
+        head_of : All Printable (line ∷ []) → Printable line
+        head_of (each h hs) = h
 
-      new_is : new_in b flags ≡ eqb (tag_of line) 0x03 && not (is_among g.seen (atom_of line))
-      unfolding new_in
-      new_is =
-          ap (λ (x : ℕ). eqb x 0x03 && not (get_or flags b.atom false)) (ap (λ (x : Brief). x.tag) is ∙ tag_is line)
-          ∙ ap (λ (x : ℕ). eqb (tag_of line) 0x03 && not (get_or flags x false)) atom_here
-          ∙ ap (λ (x : Bool). eqb (tag_of line) 0x03 && not x) (g.flagged (atom_of line))
+    new_is : new_in b flags ≡ eqb (tag_of line) 0x03 && not (is_among g.seen (atom_of line))
+    unfolding new_in
+    new_is =
+        ap (λ (x : ℕ). eqb x 0x03 && not (get_or flags b.atom false)) (ap (λ (x : Brief). tag_byte x.kind) is ∙ tag_is line)
+        ∙ ap (λ (x : ℕ). eqb (tag_of line) 0x03 && not (get_or flags x false)) atom_here
+        ∙ ap (λ (x : Bool). eqb (tag_of line) 0x03 && not x) (g.flagged (atom_of line))
 
-      -- A line that declares nothing new.
-      kept : new_in b flags ≡ false → Declaring text flags room after
-      kept n = go (eqb (tag_of line) 0x03) (is_among g.seen (atom_of line)) refl refl (sym new_is ∙ n)
-        where
-          go : (t u : Bool) → eqb (tag_of line) 0x03 ≡ t → is_among g.seen (atom_of line) ≡ u → t && not u ≡ false → Declaring text flags room after
-          go true true t u q =
-              let d = declares line ∙ ap (λ (x : Bool). cond x (placed (start_of line) (atom_of line) ∷ []) []) t in
-              grow g line after walked (placed (start_of line) (atom_of line) ∷ []) d flags room g.seen g.size g.flagged g.few
-              (λ x. again_among g.seen (atom_of line) x u ∙ ap (cond (eqb (atom_of line) x) true) (g.same x)
-              ∙ sym (among_append (map its (declared_in g.done)) (atom_of line) x))
-              (λ later. ap (λ (k : ℕ). 16 - room + k) (new_again g.seen (atom_of line) later u))
-              (λ later. overfull_again room g.seen (placed (start_of line) (atom_of line)) later u)
-          go true false t u q = absurd (true≢false q)
-          go false u t v q =
-              let d = declares line ∙ ap (λ (x : Bool). cond x (placed (start_of line) (atom_of line) ∷ []) []) t in
-              grow g line after walked [] d flags room g.seen g.size g.flagged g.few
-              (λ x. g.same x ∙ ap (λ (n : List ℕ). is_among n x) (sym (append-nil (map its (declared_in g.done))))) (λ later. refl) (λ later. refl)
-
-      -- One that does.
-      module _ (n : new_in b flags ≡ true) where
-        news : (tag_of line ≡ 0x03) × (is_among g.seen (atom_of line) ≡ false)
-        news = go (eqb (tag_of line) 0x03) (is_among g.seen (atom_of line)) refl refl (sym new_is ∙ n)
-          where
-            go : (t u : Bool) → eqb (tag_of line) 0x03 ≡ t → is_among g.seen (atom_of line) ≡ u → t && not u ≡ true
-                → (tag_of line ≡ 0x03) × (is_among g.seen (atom_of line) ≡ false)
-            go true false t u q = (eqb-true (tag_of line) 0x03 t, u)
-            go true true t u q = absurd (true≢false (sym q))
-            go false u t v q = absurd (true≢false (sym q))
-
-        abbrev here : Placed ℕ
-        here = placed (start_of line) (atom_of line)
-
-        declared_here : declared_in (line ∷ []) ≡ here ∷ []
-        declared_here = declares line ∙ ap (λ (x : Bool). cond x (here ∷ []) []) (eq-eqb (tag_of line) 0x03 news.0)
-
-        added : (room ≡ 0 → ⊥) → Declaring text (set flags (atom_of line) true) (room - 1) after
-        added some =
-            let u = news.1 in
-            let left : room ≡ suc (room - 1) = omega arith in
-            grow g line after walked (here ∷ []) declared_here (set flags (atom_of line) true) (room - 1) (atom_of line ∷ g.seen) (simp length-set g.size)
-            (flag_more flags (atom_of line) g.seen (let s = small news.0 in let l = g.size in omega arith) g.flagged) (let f = g.few in omega arith)
-            (λ x. among_cons (atom_of line) g.seen x ∙ ap (cond (eqb (atom_of line) x) true) (g.same x)
+    -- A line that declares nothing new.
+    kept : new_in b flags ≡ false → Declaring text flags room after
+    kept n = go (eqb (tag_of line) 0x03) (is_among g.seen (atom_of line)) refl refl (sym new_is ∙ n)
+      where
+        go : (t u : Bool) → eqb (tag_of line) 0x03 ≡ t → is_among g.seen (atom_of line) ≡ u → t && not u ≡ false → Declaring text flags room after
+        go true true t u q =
+            let d = declares line ∙ ap (λ (x : Bool). cond x (placed (start_of line) (atom_of line) ∷ []) []) t in
+            grow g line after walked (placed (start_of line) (atom_of line) ∷ []) d flags room g.seen g.size g.flagged g.few
+            (λ x. again_among g.seen (atom_of line) x u ∙ ap (cond (eqb (atom_of line) x) true) (g.same x)
             ∙ sym (among_append (map its (declared_in g.done)) (atom_of line) x))
-            (λ later. let h = new_here g.seen (atom_of line) later u in let f = g.few in omega arith)
-            (λ later. ap (λ (k : ℕ). overfull_at k g.seen (here ∷ later)) left ∙ overfull_new (room - 1) g.seen here later u)
+            (λ later. ap (λ (k : ℕ). 16 - room + k) (new_again g.seen (atom_of line) later u))
+            (λ later. overfull_again room g.seen (placed (start_of line) (atom_of line)) later u)
+        go true false t u q = absurd (true≢false q)
+        go false u t v q =
+            let d = declares line ∙ ap (λ (x : Bool). cond x (placed (start_of line) (atom_of line) ∷ []) []) t in
+            grow g line after walked [] d flags room g.seen g.size g.flagged g.few
+            (λ x. g.same x ∙ ap (λ (n : List ℕ). is_among n x) (sym (append-nil (map its (declared_in g.done))))) (λ later. refl) (λ later. refl)
 
-        -- There is no more room: the text is refused by 3 at this line.
-        overfull : room ≡ 0 → import_text text ≡ refused (text_refusal 3 (start_of line))
-        overfull z =
-            let s = lines_split text was walked in
-            let p = program_typed (lines_in text) in
-            let split : declared_in (lines_in text) ≡ declared_in g.done ++ (here ∷ declared_in s.0) =
-            ap declared_in s.1 ∙ declared_append (g.done ++ (line ∷ [])) s.0 ∙ places_more g.seen line g.done (declared_in s.0)
-            ∙ ap (λ (l : List (Placed ℕ)). declared_in g.done ++ (l ++ declared_in s.0)) declared_here in
-            let names = ap (map its) split ∙ its_append (declared_in g.done) (here ∷ declared_in s.0) in
-            let counted = abducibles_counted (lines_in text) ∙ ap (new_among []) names ∙ g.counts (atom_of line ∷ map its (declared_in s.0)) in
-            let new = new_here g.seen (atom_of line) (map its (declared_in s.0)) news.1 in
-            let many : 16 < length p.abducibles = omega arith in
-            let place : overfull_at 16 [] (declared_in (lines_in text)) ≡ start_of line =
-            ap (overfull_at 16 []) split ∙ g.places (here ∷ declared_in s.0) ∙ ap (λ (k : ℕ). overfull_at k g.seen (here ∷ declared_in s.0)) z
-            ∙ overfull_here g.seen here (declared_in s.0) news.1 in
-            import_checks text (lines_in text) p was refl ∙ rw (lt-leb (length p.abducibles) 16 many, place)
-
-      pub declare_on : {new : Bool} {left : ℕ} {more : List Bool} → new ≡ new_in b flags → new && eqb room 0 ≡ false → left ≡ cond new (room - 1) room
-          → more ≡ cond new (set flags b.atom true) flags → Declaring text more left after
-      declare_on {new} {left} {more} n h l m = go new n h l m
+    -- One that does.
+    module _ (n : new_in b flags ≡ true) where
+      news : (tag_of line ≡ 0x03) × (is_among g.seen (atom_of line) ≡ false)
+      news = go (eqb (tag_of line) 0x03) (is_among g.seen (atom_of line)) refl refl (sym new_is ∙ n)
         where
-          go : (t : Bool) → t ≡ new_in b flags → t && eqb room 0 ≡ false → left ≡ cond t (room - 1) room
-              → more ≡ cond t (set flags b.atom true) flags → Declaring text more left after
-          go true q k x y =
-              let z : more ≡ set flags (atom_of line) true = y ∙ ap (λ (i : ℕ). set flags i true) atom_here in
-              rw (z, x) (added (sym q) (λ w. true≢false (sym (eq-eqb room 0 w) ∙ k)))
-          go false q k x y = rw (y, x) (kept (sym q))
+          go : (t u : Bool) → eqb (tag_of line) 0x03 ≡ t → is_among g.seen (atom_of line) ≡ u → t && not u ≡ true
+              → (tag_of line ≡ 0x03) × (is_among g.seen (atom_of line) ≡ false)
+          go true false t u q = (eqb-true (tag_of line) 0x03 t, u)
+          go true true t u q = absurd (true≢false (sym q))
+          go false u t v q = absurd (true≢false (sym q))
 
-      pub declare_full : {new : Bool} → new ≡ new_in b flags → new && eqb room 0 ≡ true → import_text text ≡ refused (text_refusal 3 b.start)
-      declare_full {new} n h =
-          let t = both new (eqb room 0) h in
-          overfull (sym n ∙ t.0) (eqb-true room 0 t.1) ∙ ap (λ (x : ℕ). refused (text_refusal 3 x)) (sym (ap (λ (x : Brief). x.start) is ∙ start_is line))
+      abbrev here : Placed ℕ
+      here = placed (start_of line) (atom_of line)
+
+      declared_here : declared_in (line ∷ []) ≡ here ∷ []
+      declared_here = declares line ∙ ap (λ (x : Bool). cond x (here ∷ []) []) (eq-eqb (tag_of line) 0x03 news.0)
+
+      added : (room ≡ 0 → ⊥) → Declaring text (set flags (atom_of line) true) (room - 1) after
+      added some =
+          let u = news.1 in
+          let left : room ≡ suc (room - 1) = omega arith in
+          grow g line after walked (here ∷ []) declared_here (set flags (atom_of line) true) (room - 1) (atom_of line ∷ g.seen) (simp length-set g.size)
+          (flag_more flags (atom_of line) g.seen (let s = small news.0 in let l = g.size in omega arith) g.flagged) (let f = g.few in omega arith)
+          (λ x. among_cons (atom_of line) g.seen x ∙ ap (cond (eqb (atom_of line) x) true) (g.same x)
+          ∙ sym (among_append (map its (declared_in g.done)) (atom_of line) x))
+          (λ later. let h = new_here g.seen (atom_of line) later u in let f = g.few in omega arith)
+          (λ later. ap (λ (k : ℕ). overfull_at k g.seen (here ∷ later)) left ∙ overfull_new (room - 1) g.seen here later u)
+
+      -- There is no more room: the text is refused by 3 at this line.
+      overfull : room ≡ 0 → import_text text ≡ refused (text_refusal 3 (start_of line))
+      overfull z =
+          let s = lines_split text was walked in
+          let p = program_typed (lines_in text) in
+          let split : declared_in (lines_in text) ≡ declared_in g.done ++ (here ∷ declared_in s.0) =
+          ap declared_in s.1 ∙ declared_append (g.done ++ (line ∷ [])) s.0 ∙ places_more g.seen line g.done (declared_in s.0)
+          ∙ ap (λ (l : List (Placed ℕ)). declared_in g.done ++ (l ++ declared_in s.0)) declared_here in
+          let names = ap (map its) split ∙ its_append (declared_in g.done) (here ∷ declared_in s.0) in
+          let counted = abducibles_counted (lines_in text) ∙ ap (new_among []) names ∙ g.counts (atom_of line ∷ map its (declared_in s.0)) in
+          let new = new_here g.seen (atom_of line) (map its (declared_in s.0)) news.1 in
+          let many : 16 < length p.abducibles = omega arith in
+          let place : overfull_at 16 [] (declared_in (lines_in text)) ≡ start_of line =
+          ap (overfull_at 16 []) split ∙ g.places (here ∷ declared_in s.0) ∙ ap (λ (k : ℕ). overfull_at k g.seen (here ∷ declared_in s.0)) z
+          ∙ overfull_here g.seen here (declared_in s.0) news.1 in
+          import_checks text (lines_in text) p was refl ∙ rw (lt-leb (length p.abducibles) 16 many, place)
+
+    -- The code tests the kind, the flag and the room one by one.
+    pub other_declared : (tag_byte b.kind ≡ 0x03 → ⊥) → Declaring text flags room after
+    unfolding new_in
+    other_declared other = kept (rw (ne_eqb (tag_byte b.kind) 0x03 other))
+
+    module _ (own : tag_byte b.kind ≡ 0x03) {a : ℕ} (same : a ≡ b.atom) where
+      pub again_declared : get_or flags a false ≡ true → Declaring text flags room after
+      unfolding new_in
+      again_declared f = kept (rw (eq-eqb (tag_byte b.kind) 0x03 own, ← same, f))
+
+      module _ (f : get_or flags a false ≡ false) where
+        is_new : new_in b flags ≡ true
+        unfolding new_in
+        is_new = rw (eq-eqb (tag_byte b.kind) 0x03 own, ← same, f)
+
+        pub new_declared : (room ≡ 0 → ⊥) → Declaring text (set flags a true) (room - 1) after
+        new_declared some =
+            let here : atom_of line ≡ a = sym (same ∙ atom_here) in
+            rw here at (added is_new some)
+
+        pub none_left : room ≡ 0 → import_text text ≡ refused (text_refusal 3 b.start)
+        none_left z = overfull is_new z ∙ ap (λ (x : ℕ). refused (text_refusal 3 x)) (sym (ap (λ (x : Brief). x.start) is ∙ start_is line))

@@ -9,15 +9,17 @@ use native.Mathlib.Omega.{arith}
 use borrow.Author.Tests.{eq-eqb, ne_eqb, le-leb, lt-leb}
 use lib.Dec.{leb}
 use lib.ListN.{length}
+use Rattle.std.proofs.Common.{Ok, Err}
 use Rattle.papers.specs.Program.{Rule, Program}
 use Rattle.papers.specs.Content.{is_among}
-use Rattle.papers.specs.Encoding.{encode_field, rule_numbers, encode_file}
+use Rattle.papers.specs.Encoding.{encode_numbers, encode_field, encode_run, rule_numbers, encode_file}
 use Rattle.papers.specs.Answers.{fields_length}
 use Rattle.papers.specs.Valid.{All, none, each, ValidBody, ValidRule, Valid}
 use Rattle.papers.proofs.Lists.{all_map, all_each}
 use Rattle.papers.proofs.Sizes.{length_file, file_bound}
 use Rattle.dual.specs.Bytes.{filled}
-use Rattle.text.specs.Lines.{TextRefusal}
+use Rattle.text.specs.declared.TextRefusal as answer
+use Rattle.text.specs.Told.{refusal_of}
 use Rattle.text.specs.Lines.{Reading, accepted, refused, Line, abducible, rule, integrity, lines_of}
 use Rattle.text.specs.Typed.{Placed, placed, its, rules_in, integrity_in, named_in, count_of, rising_from, program_typed}
 use Rattle.text.specs.Importing.{check_run, import_text}
@@ -26,15 +28,12 @@ use Rattle.text.proofs.ReadBack.{imported}
 use Rattle.text.proofs.Fitting.{count_above, count_most, text_fits, named_small}
 use Rattle.text.proofs.Spacing.{rules_whole}
 use Rattle.text.proofs.Passes.{import_refused, import_checks, declared_listed}
-use Rattle.importing.specs.declared.Imported.TheVariants.{Length, Short, Refused}
+use Rattle.importing.specs.declared.ImportError.TheVariants.{Short, Refused}
 use Rattle.importing.specs.declared.declaring.Abducibles.{Abducibles}
-use Rattle.importing.specs.declared.checking.RunsChecked.{RunsChecked}
-use Rattle.importing.specs.declared.checking.RunsChecked.TheVariants as both
 use Rattle.importing.specs.Imports.{imported_told, import_told, tells, import_after}
 use Rattle.importing.specs.Passes.{lines_in, Typed, typed, declared_names, Flagged, flagged_from, list_of, fields_in, contents_in, runs_checked, RunsTell}
-use Rattle.importing.specs.Passes.{Within, Sized, from_integrity, from_rules, from_abducibles, from_atoms}
+use Rattle.importing.specs.Passes.{Within, Sized}
 use Rattle.importing.proofs.RisingLaws.{flagged_rising}
-use Rattle.importing.proofs.RunWriting.{padded_taken}
 
 -- ---- the fields of each tag
 
@@ -144,18 +143,14 @@ module _ (text : List ℕ) (t : Typed text) (few : length (typed text).abducible
       (check_run 0x05 n abducibles 256 l (accepted (typed text))))
       (sym (integrity_are (lines_in text)))
 
-  pub runs_pass : {rules integrity : ℕ} → RunsTell text (both.Lengths rules integrity) → import_text text ≡ accepted (typed text)
+  pub runs_pass : {rules integrity : ℕ} → RunsTell text (Ok (rules, integrity)) → import_text text ≡ accepted (typed text)
   runs_pass r = as_checked ∙ r.0 (accepted (typed text))
 
-  pub runs_refuse : {r : TextRefusal} → RunsTell text (both.Refused r) → import_text text ≡ refused r
-  runs_refuse r = as_checked ∙ r (accepted (typed text))
-
--- What is told of an answer is told of what was found of it.
-pub runs_as : (text : List ℕ) {r s : RunsChecked} → r ≡ s → RunsTell text r → RunsTell text s
-runs_as text e t = rw e at t
+  pub runs_refuse : (r : answer.TextRefusal) → RunsTell text (Err r) → import_text text ≡ refused (refusal_of r)
+  runs_refuse r refuses = as_checked ∙ refuses (accepted (typed text))
 
 -- The file's length, added up.
-pub size_is : (text : List ℕ) {rules integrity : ℕ} → RunsTell text (both.Lengths rules integrity) → {list : Abducibles} → list
+pub size_is : (text : List ℕ) {rules integrity : ℕ} → RunsTell text (Ok (rules, integrity)) → {list : Abducibles} → list
     ≡ list_of (typed text).abducibles
     → 15 + 2 * list.count + rules + integrity ≡ length (encode_file (typed text))
 size_is text r {list} e =
@@ -195,29 +190,31 @@ module _ (text : List ℕ) (e : import_text text ≡ accepted (typed text)) wher
   pub few_abducibles_lem : length (typed text).abducibles ≤ 16
   few_abducibles_lem = valid.few_abducibles
 
-  pub as_fields : encode_field 0x01 (1 ∷ []) ++ from_atoms (typed text).atoms (list_of (typed text).abducibles) text ≡ encode_file (typed text)
-  unfolding encode_file from_atoms from_abducibles from_rules from_integrity
-  as_fields =
-      rw (padded_taken 17 (typed text).abducibles (let f = few_abducibles_lem in omega arith), rule_contents text, integrity_contents text)
+  -- Field after field.
+  pub as_fields : encode_field 0x01 (1 ∷ []) ++ (encode_field 0x02 (encode_numbers ((typed text).atoms ∷ []))
+      ++ (encode_field 0x03 (encode_numbers (typed text).abducibles) ++ (encode_run 0x04 (contents_in 0x04 text)
+      ++ (encode_run 0x05 (contents_in 0x05 text) ++ encode_field 0x7F [])))) ≡ encode_file (typed text)
+  unfolding encode_file
+  as_fields = rw (rule_contents text, integrity_contents text)
 
 -- ---- the answer
 
 module _ (text buffer : List ℕ) where
-  pub text_refused : {r : TextRefusal} → import_text text ≡ refused r
-      → (imported_told (Refused r) ≡ import_told (import_text text) (length buffer)) × (buffer ≡ import_after (import_text text) buffer)
+  pub text_refused : (r : answer.TextRefusal) → import_text text ≡ refused (refusal_of r)
+      → (imported_told (Err (Refused r)) ≡ import_told (import_text text) (length buffer)) × (buffer ≡ import_after (import_text text) buffer)
   unfolding imported_told import_told
-  text_refused e = (rw e, rw e)
+  text_refused r e = (rw e, rw e)
 
   module _ (e : import_text text ≡ accepted (typed text)) {size : ℕ} (s : size ≡ length (encode_file (typed text))) where
     pub file_short : length buffer < size
-        → (imported_told Short ≡ import_told (import_text text) (length buffer)) × (buffer ≡ import_after (import_text text) buffer)
+        → (imported_told (Err Short) ≡ import_told (import_text text) (length buffer)) × (buffer ≡ import_after (import_text text) buffer)
     unfolding imported_told import_told
     file_short h =
         let t : leb (length (encode_file (typed text))) (length buffer) ≡ false = lt-leb (length (encode_file (typed text))) (length buffer) (omega arith) in
         (rw (e, t), rw (e, t))
 
     pub file_written : size ≤ length buffer → (after : List ℕ) → after ≡ filled (encode_file (typed text)) buffer
-        → (imported_told (Length size) ≡ import_told (import_text text) (length buffer)) × (after ≡ import_after (import_text text) buffer)
+        → (imported_told (Ok size) ≡ import_told (import_text text) (length buffer)) × (after ≡ import_after (import_text text) buffer)
     unfolding imported_told import_told
     file_written h after w =
         let t : leb (length (encode_file (typed text))) (length buffer) ≡ true = le-leb (length (encode_file (typed text))) (length buffer) (omega arith) in

@@ -2,6 +2,8 @@
 
 -- The lines of a text, one by one.
 mod LinesWalked
+-- What a line types, by its tag.
+mod LineKinds
 -- The atom count.
 mod SurveyLaws
 -- The abducibles.

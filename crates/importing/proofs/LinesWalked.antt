@@ -2,13 +2,12 @@
 -- Assumes nothing.
 use mathlib.Core.Path.{◌≡◌, refl, sym, ap, ◌∙◌}
 use mathlib.Core.List.{List, [], ◌∷◌, ◌++◌, map, append_assoc, append-nil}
-use Prim.Native.Nat.{ℕ, ◌≤◌, ◌<◌}
+use Prim.Native.Nat.{ℕ, ◌≤◌}
 use native.Mathlib.Omega.{arith}
 use lib.ListN.{length}
+use Rattle.std.proofs.Common.{Option, None, Ok}
 use Rattle.text.specs.Lines.{TextRefusal}
 use Rattle.text.specs.declared.line.Brief.{Brief}
-use Rattle.text.specs.declared.line.LineRead.{LineRead}
-use Rattle.text.specs.declared.line.LineRead.TheVariants as read
 use Rattle.text.specs.Lines.{Reading, accepted, refused, and_then, Line, fresh, lines_of}
 use Rattle.text.specs.Typed.{Placed, its}
 use Rattle.text.specs.LineAnswers.{lines_at, LineTells, LineEnds}
@@ -40,32 +39,27 @@ same_lines e = cc
 pub lines_start : (text : List ℕ) → LinesRead text [] 0
 lines_start text = record { within = omega arith; reads = all_accepted (lines_of text) }
 
-module _ {text : List ℕ} {done : List Line} {at : ℕ} (g : LinesRead text done at) {got : LineRead} (told : LineTells text fresh at got) where
-  pub lines_over : got ≡ read.End → lines_of text ≡ accepted done
-  lines_over e =
-      let end : lines_at text fresh at ≡ accepted [] = rw e at told in
+module _ {text : List ℕ} {done : List Line} {at : ℕ} (g : LinesRead text done at) where
+  pub lines_over : lines_at text fresh at ≡ accepted [] → lines_of text ≡ accepted done
+  lines_over end =
       g.reads ∙ ap (λ (o : Reading (List Line)). and_then o (λ rest. accepted (done ++ rest))) end ∙ ap accepted (append-nil done)
 
-  pub lines_refused : {r : TextRefusal} → got ≡ read.Refused r → lines_of text ≡ refused r
-  lines_refused {r} e =
-      let end : lines_at text fresh at ≡ refused r = rw e at told in
+  pub lines_refused : {r : TextRefusal} → lines_at text fresh at ≡ refused r → lines_of text ≡ refused r
+  lines_refused end =
       g.reads ∙ ap (λ (o : Reading (List Line)). and_then o (λ rest. accepted (done ++ rest))) end
 
-  module _ {b : Brief} {after : ℕ} (e : got ≡ read.Line b after) where
-    pub met : LineEnds text fresh at b after
-    met = rw e at told
+  pub lines_on : {b : Brief} {after : ℕ} (m : LineEnds text fresh at b after) → LinesRead text (done ++ (m.line ∷ [])) after
+  lines_on {b} {after} m = record {
+    within = m.within;
+    reads =
+        g.reads
+        ∙ ap (λ (o : Reading (List Line)). and_then o (λ rest. accepted (done ++ rest))) m.reads
+        ∙ one_further done m.line (lines_at text fresh after);
+  }
 
-    pub lines_on : LinesRead text (done ++ (met.line ∷ [])) after
-    lines_on = record {
-      within = met.within;
-      reads =
-          g.reads
-          ∙ ap (λ (o : Reading (List Line)). and_then o (λ rest. accepted (done ++ rest))) met.reads
-          ∙ one_further done met.line (lines_at text fresh after);
-    }
-
-    pub lines_less : at < after
-    lines_less = met.later
+-- No line was read.
+pub lines_none : (text : List ℕ) (at : ℕ) {got : Option (Brief × ℕ)} → LineTells text fresh at (Ok got) → got ≡ None → lines_at text fresh at ≡ accepted []
+lines_none text at told e = rw e at told
 
 -- ---- of a text that was read
 
@@ -81,13 +75,3 @@ module _ (text : List ℕ) (typed : Typed text) where
 
   pub no_refusal : {X : Type 0} {r : TextRefusal} → lines_of text ≡ refused r → X
   no_refusal e = refused_not (sym e ∙ typed)
-
-  -- What is read is no line: the lines are over.
-  pub lines_end : {done : List Line} {at : ℕ} → LinesRead text done at → (got : LineRead) → LineTells text fresh at got
-      → ((b : Brief) (after : ℕ) → got ≡ read.Line b after → ⊥) → lines_of text ≡ accepted done
-  lines_end {done} {at} g got told k = go got refl
-    where
-      go : (x : LineRead) → got ≡ x → lines_of text ≡ accepted done
-      go (read.Line b after) e = absurd (k b after e)
-      go (read.Refused r) e = no_refusal (lines_refused g told e)
-      go read.End e = lines_over g told e

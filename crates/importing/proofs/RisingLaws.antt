@@ -5,11 +5,11 @@ use mathlib.Core.Bool.{Bool, true, false, cond}
 use mathlib.Core.List.{List, [], ◌∷◌, ◌++◌, append-nil}
 use Prim.Native.Nat.{ℕ, zero, suc, ◌+◌, ◌≤◌}
 use native.Mathlib.Omega.{arith}
-use lib.ListN.{length, get_or, length-append}
+use lib.ListN.{length, get_or, set, length-append}
 use Rattle.text.specs.Typed.{rising_from}
+use Rattle.text.specs.LineNumbers.{padded}
 use Rattle.text.proofs.Gathering.{padded_more}
-use Rattle.importing.specs.declared.declaring.Abducibles.{Abducibles}
-use Rattle.importing.specs.Passes.{Flagged, flagged_from, list_of, listed_with}
+use Rattle.importing.specs.Passes.{Flagged, flagged_from}
 
 -- One atom more.
 flagged_more : (flags : List Bool) (n atom : ℕ) → flagged_from flags atom (n + 1)
@@ -25,7 +25,8 @@ flagged_more flags (suc n) atom =
     let s : atom + 1 + n ≡ atom + suc n = omega arith in
     rw e (go (get_or flags atom false) (rw s at (flagged_more flags n (atom + 1))))
   where
-    go : (t : Bool) → flagged_from flags (atom + 1) (n + 1) ≡ flagged_from flags (atom + 1) n ++ cond (get_or flags (atom + suc n) false) ((atom + suc n) ∷ []) []
+    go : (t : Bool) → flagged_from flags (atom + 1) (n + 1)
+        ≡ flagged_from flags (atom + 1) n ++ cond (get_or flags (atom + suc n) false) ((atom + suc n) ∷ []) []
         → cond t (atom ∷ flagged_from flags (atom + 1) (n + 1)) (flagged_from flags (atom + 1) (n + 1))
         ≡ cond t (atom ∷ flagged_from flags (atom + 1) n) (flagged_from flags (atom + 1) n) ++ cond (get_or flags (atom + suc n) false) ((atom + suc n) ∷ []) []
     go true ih = ap (λ (l : List ℕ). atom ∷ l) ih
@@ -41,24 +42,29 @@ flagged_few flags atom (suc n) = go (get_or flags atom false) (flagged_few flags
     go true h = omega arith
     go false h = omega arith
 
-more_listed : (l : List ℕ) (atom : ℕ) (t : Bool) → list_of (l ++ cond t (atom ∷ []) []) ≡ listed_with (list_of l) atom t
-unfolding listed_with
-more_listed l atom true =
-    let size : length (l ++ (atom ∷ [])) ≡ length l + 1 = length-append l (atom ∷ []) in
-    rw (size, padded_more 17 l atom)
-more_listed l atom false = ap list_of (append-nil l)
+module _ (flags : List Bool) (n : ℕ) where
+  abbrev before : List ℕ
+  before = flagged_from flags 0 n
 
-pub listed_more : (flags : List Bool) (n : ℕ) {flag : Bool} {list more : Abducibles} → list ≡ list_of (flagged_from flags 0 n) → flag ≡ get_or flags n false
-    → more ≡ listed_with list n flag → more ≡ list_of (flagged_from flags 0 (n + 1))
-listed_more flags n {flag} {list} {more} l f m =
-    let z : 0 + n ≡ n = omega arith in
-    m ∙ ap (λ (x : Abducibles). listed_with x n flag) l ∙ ap (listed_with (list_of (flagged_from flags 0 n)) n) f
-    ∙ sym (more_listed (flagged_from flags 0 n) n (get_or flags n false))
-    ∙ ap list_of (sym (rw z at (flagged_more flags n 0)))
+  abbrev after : List ℕ
+  after = flagged_from flags 0 (n + 1)
 
-pub listed_start : (flags : List Bool) → list_of [] ≡ list_of (flagged_from flags 0 0)
-unfolding flagged_from
-listed_start flags = refl
+  step : after ≡ before ++ cond (get_or flags n false) (n ∷ []) []
+  step = let z : 0 + n ≡ n = omega arith in rw z at (flagged_more flags n 0)
+
+  module _ {count : ℕ} {numbers : List ℕ} (c : count ≡ length before) (l : numbers ≡ padded 17 before) where
+    pub one_listed : get_or flags n false ≡ true → (count + 1 ≡ length after) × (set numbers count n ≡ padded 17 after)
+    one_listed h =
+        let grown : after ≡ before ++ (n ∷ []) = step ∙ ap (λ (t : Bool). before ++ cond t (n ∷ []) []) h in
+        let size : length (before ++ (n ∷ [])) ≡ length before + 1 = length-append before (n ∷ []) in (
+          omega (arith, c, size, ap length grown),
+          ap (λ (x : List ℕ). set x count n) l ∙ ap (λ (k : ℕ). set (padded 17 before) k n) c ∙ sym (padded_more 17 before n) ∙ ap (padded 17) (sym grown),
+        )
+
+    pub none_listed : get_or flags n false ≡ false → (count ≡ length after) × (numbers ≡ padded 17 after)
+    none_listed h =
+        let same : after ≡ before = step ∙ ap (λ (t : Bool). before ++ cond t (n ∷ []) []) h ∙ append-nil before in
+        (c ∙ ap length (sym same), l ∙ ap (padded 17) (sym same))
 
 -- The flags are those of the names: the flagged atoms are the names, rising.
 pub flagged_rising : (flags : List Bool) (names : List ℕ) → Flagged flags names → (atom n : ℕ) → flagged_from flags atom n ≡ rising_from names atom n

@@ -9,6 +9,7 @@ use native.Mathlib.Omega.{arith}
 use borrow.Author.Tests.{eq-eqb, ne_eqb, lt-ltb, le-ltb, lt-leb, leb-true}
 use lib.Dec.{eqb, leb}
 use lib.ListN.{length, get_or}
+use Rattle.std.proofs.Common.{Ok, Err}
 use Rattle.papers.specs.Program.{Program}
 use Rattle.papers.specs.Outcome.{check}
 use Rattle.papers.specs.Field.{fewest, most, length_allowed}
@@ -17,22 +18,17 @@ use Rattle.papers.specs.Answers.{fields_length}
 use Rattle.papers.specs.Valid.{All, each}
 use Rattle.papers.proofs.Checks.{both as and_both}
 use Rattle.text.specs.declared.line.Brief.{Brief}
-use Rattle.text.specs.declared.line.LineRead.{LineRead}
-use Rattle.text.specs.declared.line.LineRead.TheVariants as read
 use Rattle.text.specs.Lines.{Reading, accepted, refused, text_refusal, passing, Line, abducible, rule, integrity, fresh, lines_of}
 use Rattle.text.specs.Typed.{Placed, placed, its, rules_in, integrity_in, named_in, program_typed}
 use Rattle.text.specs.Importing.{check_run}
-use Rattle.text.specs.Briefly.{tag_of, start_of, atom_of, numbers_of, few, brief}
-use Rattle.text.specs.LineAnswers.{LineTells}
+use Rattle.text.specs.Briefly.{tag_of, tag_byte, start_of, atom_of, numbers_of, few, brief}
+use Rattle.text.specs.LineAnswers.{LineEnds}
 use Rattle.text.proofs.ReadBack.{heading_is}
 use Rattle.text.proofs.BriefLaws.{named_append}
 use Rattle.text.proofs.Fitting.{RuleChecked, all_split, rules_checked, integrity_checked, count_above}
-use Rattle.text.specs.Lines.{TextRefusal}
-use Rattle.importing.specs.declared.checking.RunChecked.{RunChecked}
-use Rattle.importing.specs.declared.checking.RunChecked.TheVariants.{Length, Refused}
-use Rattle.importing.specs.declared.checking.RunsChecked.TheVariants as both
+use Rattle.text.specs.declared.TextRefusal as answer
 use Rattle.importing.specs.Passes.{lines_in, Typed, typed, Flagged, fields_in, fixed_in, line_number, room_after, size_after, RunTells, RunsTell}
-use Rattle.importing.proofs.LinesWalked.{its_append, LinesRead, lines_start, met, lines_on, lines_split, all_done}
+use Rattle.importing.proofs.LinesWalked.{its_append, LinesRead, lines_start, lines_on, lines_split, all_done}
 use Rattle.importing.proofs.DeclareLaws.{atom_is, start_is, tag_is}
 
 -- ---- one line
@@ -209,7 +205,7 @@ module _ (text : List ℕ) where
   abducibles = (typed text).abducibles
 
   module _ (t : Typed text) {tag most : ℕ} {at room size : ℕ} (g : Checking text tag most at room size) where
-    pub check_over : lines_of text ≡ accepted g.done → RunTells text tag most (Length size)
+    pub check_over : lines_of text ≡ accepted g.done → RunTells text tag most (Ok size)
     check_over e =
         let all = all_done text t e in (
           λ next.
@@ -219,19 +215,19 @@ module _ (text : List ℕ) where
           g.sized ∙ ap (λ (l : List Line). fields_length (map its (fields_in tag l))) (sym all),
         )
 
-    module _ (low : 4 ≤ tag) (high : tag ≤ 5) {got : LineRead} (told : LineTells text fresh at got) where
-      module _ {b : Brief} {after : ℕ} (e : got ≡ read.Line b after) where
+    module _ (low : 4 ≤ tag) (high : tag ≤ 5) where
+      module _ {b : Brief} {after : ℕ} (m : LineEnds text fresh at b after) where
         abbrev line : Line
-        line = (met g.walked told e).line
+        line = m.line
 
         abbrev is : b ≡ brief line
-        is = (met g.walked told e).briefly
+        is = m.briefly
 
         abbrev walked : LinesRead text (g.done ++ (line ∷ [])) after
-        walked = lines_on g.walked told e
+        walked = lines_on g.walked m
 
-        tag_here : b.tag ≡ tag_of line
-        tag_here = ap (λ (x : Brief). x.tag) is ∙ tag_is line
+        tag_here : tag_byte b.kind ≡ tag_of line
+        tag_here = ap (λ (x : Brief). tag_byte x.kind) is ∙ tag_is line
 
         count_here : b.count ≡ few (length (numbers_of line))
         unfolding brief
@@ -277,7 +273,8 @@ module _ (text : List ℕ) where
           unfolding line_number
           number_is =
               q
-              ∙ ap (λ (x : Bool). cond (eqb b.tag tag) (check (not (eqb room 0)) 9 (check (length_allowed tag (2 * b.count)) 3 (check (not x) 8 0))) 0)
+              ∙ ap (λ (x : Bool). cond (eqb (tag_byte b.kind) tag)
+              (check (not (eqb room 0)) 9 (check (length_allowed tag (2 * b.count)) 3 (check (not x) 8 0))) 0)
               fixed_is
               ∙ ap (λ (x : ℕ). cond (eqb x tag) (check (not (eqb room 0)) 9 (check (length_allowed tag (2 * b.count)) 3 (check (not fixed) 8 0))) 0) tag_here
               ∙ ap (λ (x : Bool). cond (eqb (tag_of line) tag) (check (not (eqb room 0)) 9 (check x 3 (check (not fixed) 8 0))) 0)
@@ -286,7 +283,8 @@ module _ (text : List ℕ) where
           abbrev checks : Bool → ℕ
           checks own = cond own (check (not (eqb room 0)) 9 (check (length_allowed tag (2 * length (numbers_of line))) 3 (check (not fixed) 8 0))) 0
 
-          pub check_fails : (number ≡ 0 → ⊥) → RunTells text tag most (Refused (text_refusal number b.start))
+          pub check_fails : (number ≡ 0 → ⊥) → (next : Reading Program)
+              → check_run tag n abducibles most (fields_in tag (lines_in text)) next ≡ refused (text_refusal number b.start)
           check_fails bad next = elim (ℕ_discrete (tag_of line) tag) [
             | yes own ↦
                 let a = ahead next in
@@ -310,7 +308,7 @@ module _ (text : List ℕ) where
           unfolding room_after size_after
           check_on good {left} {total} l s = elim (ℕ_discrete (tag_of line) tag) [
             | yes own ↦
-                let same = eq-eqb b.tag tag (tag_here ∙ own) in
+                let same = eq-eqb (tag_byte b.kind) tag (tag_here ∙ own) in
                 let passes = own_passed own good in
                 let some = (passes [] (accepted (typed text))).1 in
                 let short = allowed_most tag (length (numbers_of line)) low high some.1 in
@@ -333,7 +331,7 @@ module _ (text : List ℕ) where
                       ∙ ap (λ (x : ℕ). check_run tag n abducibles x later next) (sym l2);
                 }
             | no other ↦
-                let apart = ne_eqb b.tag tag (λ x. other (sym tag_here ∙ x)) in
+                let apart = ne_eqb (tag_byte b.kind) tag (λ x. other (sym tag_here ∙ x)) in
                 let l2 : left ≡ room = l ∙ ap (λ (x : Bool). cond x (room - 1) room) apart in
                 let s2 : total ≡ size = s ∙ ap (λ (x : Bool). cond x (size + (3 + 2 * b.count)) size) apart in
                 let sum = ap fields_length (contents_more tag g.done line (field_other tag line other) ∙ append-nil (map its (fields_in tag g.done))) in
@@ -350,20 +348,31 @@ module _ (text : List ℕ) where
                 }
           ]
 
+        module _ (flags : List Bool) (flagged : Flagged flags abducibles) where
+          pub check_own : tag_byte b.kind ≡ tag → 0 ≡ line_number b tag room (fixed_in b tag flags)
+              → Checking text tag most after (room - 1) (size + (3 + 2 * b.count))
+          unfolding room_after size_after
+          check_own own passes = check_on flags flagged passes refl (rw (eq-eqb (tag_byte b.kind) tag own)) (rw (eq-eqb (tag_byte b.kind) tag own))
+
+          pub some_left : tag_byte b.kind ≡ tag → 0 ≡ line_number b tag room (fixed_in b tag flags) → 1 ≤ room
+          some_left own passes =
+              let p = own_passed flags flagged passes (sym tag_here ∙ own) refl [] (accepted (typed text)) in omega (arith, p.1.0)
+
+          pub check_other : (tag_byte b.kind ≡ tag → ⊥) → Checking text tag most after room size
+          unfolding line_number room_after size_after
+          check_other other =
+              check_on flags flagged {number = 0} (rw (ne_eqb (tag_byte b.kind) tag other)) refl (rw (ne_eqb (tag_byte b.kind) tag other))
+              (rw (ne_eqb (tag_byte b.kind) tag other))
+
 -- ---- both runs
 
-module _ (text : List ℕ) {first : RunChecked} (rules : RunTells text 0x04 1024 first) where
-  pub rules_refuse : {r : TextRefusal} → first ≡ Refused r → RunsTell text (both.Refused r)
-  rules_refuse {r} e next = let t : RunTells text 0x04 1024 (Refused r) = rw e at rules in t _
+module _ (text : List ℕ) where
+  pub rules_refuse : (r : answer.TextRefusal) → RunTells text 0x04 1024 (Err r) → RunsTell text (Err r)
+  rules_refuse r t next = t _
 
-  passed : {size : ℕ} → first ≡ Length size → RunTells text 0x04 1024 (Length size)
-  passed e = rw e at rules
+  module _ {size : ℕ} (rules : RunTells text 0x04 1024 (Ok size)) where
+    pub then_refuse : (r : answer.TextRefusal) → RunTells text 0x05 256 (Err r) → RunsTell text (Err r)
+    then_refuse r t next = rules.0 _ ∙ t next
 
-  module _ {size : ℕ} (e : first ≡ Length size) {second : RunChecked} (integrity : RunTells text 0x05 256 second) where
-    pub then_refuse : {r : TextRefusal} → second ≡ Refused r → RunsTell text (both.Refused r)
-    then_refuse {r} q next = let t : RunTells text 0x05 256 (Refused r) = rw q at integrity in (passed e).0 _ ∙ t next
-
-    pub then_pass : {length-then : ℕ} → second ≡ Length length-then → RunsTell text (both.Lengths size length-then)
-    then_pass {length-then} q =
-        let t : RunTells text 0x05 256 (Length length-then) = rw q at integrity in
-        (λ next. (passed e).0 _ ∙ t.0 next, ((passed e).1, t.1))
+    pub then_pass : {more : ℕ} → RunTells text 0x05 256 (Ok more) → RunsTell text (Ok (size, more))
+    then_pass t = (λ next. rules.0 _ ∙ t.0 next, (rules.1, t.1))

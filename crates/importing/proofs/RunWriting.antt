@@ -3,38 +3,31 @@
 use mathlib.Core.Path.{◌≡◌, refl, sym, ap, ◌∙◌}
 use mathlib.Core.Bool.{Bool, true, false, cond}
 use mathlib.Core.List.{List, [], ◌∷◌, ◌++◌, map, append_assoc, append-nil}
-use Prim.Native.Nat.{ℕ, zero, suc, ◌+◌, ◌≤◌, ◌<◌}
+use Prim.Native.Nat.{ℕ, zero, suc, ◌+◌, ◌-◌, ◌≤◌}
 use native.Mathlib.Omega.{arith}
 use borrow.Author.Tests.{eq-eqb, ne_eqb}
 use lib.Dec.{eqb}
-use lib.ListN.{length, take, drop, set, length-append}
+use lib.ListN.{length, take, drop, length-append, length-drop}
+use borrow.Rule.Slice.PartMut.{put_mid}
 use Rattle.papers.specs.Encoding.{encode_numbers, encode_field, encode_run}
 use Rattle.papers.specs.Valid.{All, each}
 use Rattle.dual.specs.Bytes.{filled, Fills}
-use Rattle.dual.proofs.FilledLaws.{filled_part}
+use Rattle.dual.proofs.FilledLaws.{filled_part, put_end}
+use Rattle.papers.proofs.NumbersWalked.{to_end}
 use Rattle.text.specs.declared.line.Brief.{Brief}
-use Rattle.text.specs.declared.line.LineRead.{LineRead}
-use Rattle.text.specs.declared.line.LineRead.TheVariants as read
 use Rattle.text.specs.Lines.{Reading, accepted, and_then, Line, fresh, lines_of}
 use Rattle.text.specs.Typed.{its}
-use Rattle.text.specs.Briefly.{tag_of, start_of, numbers_of, brief}
-use Rattle.text.specs.LineAnswers.{lines_at, LineTells}
+use Rattle.text.specs.Briefly.{tag_of, tag_byte, start_of, numbers_of, brief}
+use Rattle.text.specs.LineAnswers.{lines_at, LineEnds}
 use Rattle.text.specs.LineNumbers.{padded, NumbersTell}
 use Rattle.text.proofs.Readings.{through}
 use Rattle.text.proofs.Fitting.{all_split}
 use Rattle.importing.specs.Passes.{Typed, fields_in, contents_in, line_bytes, LineFits, LineFills, Within, RunFits}
-use Rattle.importing.proofs.LinesWalked.{its_append, LinesRead, lines_start, met, lines_on, lines_split, all_done}
+use Rattle.importing.proofs.LinesWalked.{its_append, LinesRead, lines_start, lines_on, lines_split, all_done}
 use Rattle.importing.proofs.DeclareLaws.{tag_is}
 use Rattle.importing.proofs.RunLaws.{fields_append, field_own, contents_more, fewer}
 
 -- ---- bytes
-
-pub filled_four : (buffer : List ℕ) (x y z w : ℕ) → 3 < length buffer → set (set (set (set buffer 0 x) 1 y) 2 z) 3 w ≡ filled (x ∷ y ∷ z ∷ w ∷ []) buffer
-filled_four [] x y z w h = absurd (omega arith)
-filled_four (a ∷ []) x y z w h = absurd (omega arith)
-filled_four (a ∷ b ∷ []) x y z w h = absurd (omega arith)
-filled_four (a ∷ b ∷ c ∷ []) x y z w h = absurd (omega arith)
-filled_four (a ∷ b ∷ c ∷ d ∷ l) x y z w h = refl
 
 -- What is written from where the first bytes end.
 pub filled_then : (bytes more entry start part : List ℕ) (end : ℕ) → start ≡ filled bytes entry → end ≡ length bytes → part ≡ filled more (drop end start)
@@ -44,6 +37,30 @@ filled_then bytes more entry start part end s e p =
     ∙ ap (λ (x : List ℕ). take end x ++ filled more (drop end x)) s
     ∙ ap (λ (k : ℕ). take k (filled bytes entry) ++ filled more (drop k (filled bytes entry))) e
     ∙ filled_part bytes more entry
+
+-- The first bytes of a buffer are written, and the rest stands as it did.
+pub record Filling (bytes entry buffer : List ℕ) : Type 0 where
+  pub written : buffer ≡ filled bytes entry
+  pub fits : length bytes ≤ length entry
+
+module _ {bytes entry buffer : List ℕ} (f : Filling bytes entry buffer) where
+  pub whole : length buffer ≡ length entry
+  whole =
+      let l = length-append bytes (drop (length bytes) entry) in
+      let d = length-drop (length bytes) entry in
+      ap length f.written ∙ (let fits = f.fits in omega arith)
+
+  module _ {end : ℕ} (e : end ≡ length bytes) where
+    -- What is left of it, from where they end.
+    pub left_over : length (take (length buffer - end) (drop end buffer)) + end ≡ length entry
+    left_over = rw (to_end end buffer) (let d = length-drop end buffer in let all = whole in let fits = f.fits in omega arith)
+
+    pub filling_more : (more part : List ℕ) → part ≡ filled more (take (length buffer - end) (drop end buffer))
+        → length bytes + length more ≤ length entry → Filling (bytes ++ more) entry (put_mid end (length buffer - end) buffer part)
+    filling_more more part p h = record {
+      written = put_end end buffer part ∙ filled_then bytes more entry buffer part end f.written e (rw (to_end end buffer) at p);
+      fits = let l = length-append bytes more in omega arith;
+    }
 
 run_append : (tag : ℕ) (xs ys : List (List ℕ)) → encode_run tag (xs ++ ys) ≡ encode_run tag xs ++ encode_run tag ys
 unfolding encode_run
@@ -82,17 +99,17 @@ same_line : {a b : Line} {xs ys : List Line} → ◌≡◌ {A = Reading (List Li
 same_line e = cc
 
 module _ {text : List ℕ} {at : ℕ} {b : Brief} {tag room : ℕ} (f : LineFits text at b tag room) where
-  own_tag : b.tag ≡ tag_of f.line
-  own_tag = ap (λ (x : Brief). x.tag) f.briefly ∙ tag_is f.line
+  own_tag : tag_byte b.kind ≡ tag_of f.line
+  own_tag = ap (λ (x : Brief). tag_byte x.kind) f.briefly ∙ tag_is f.line
 
-  pub skips : (b.tag ≡ tag → ⊥) → (buffer : List ℕ) → LineFills text at tag buffer 0 buffer
+  pub skips : (tag_byte b.kind ≡ tag → ⊥) → (buffer : List ℕ) → LineFills text at tag buffer 0 buffer
   skips h buffer line rest e =
       let same = same_line (sym f.here ∙ e) in
       let none = ap (line_bytes tag) (sym same) ∙ line_other tag f.line (λ q. h (own_tag ∙ q)) in
       (ap length (sym none), ap (λ (x : List ℕ). filled x buffer) (sym none))
 
-  module _ (own : b.tag ≡ tag) where
-    here_own : tag_of f.line ≡ tag
+  module _ (own : tag_byte b.kind ≡ tag) where
+    pub here_own : tag_of f.line ≡ tag
     here_own = sym own_tag ∙ own
 
     count_is : b.count ≡ length (numbers_of f.line)
@@ -136,12 +153,12 @@ writing_done text tag {start} t g e =
     (g.ends ∙ ap length all, g.written ∙ ap (λ (x : List ℕ). filled x start) all)
 
 module _ (text : List ℕ) {tag : ℕ} {start buffer : List ℕ} {at end : ℕ} (f : RunFits text tag (length start)) (g : Writing text tag start buffer at end)
-    {got : LineRead} (told : LineTells text fresh at got) {b : Brief} {after : ℕ} (e : got ≡ read.Line b after) where
+    {b : Brief} {after : ℕ} (m : LineEnds text fresh at b after) where
   abbrev line : Line
-  line = (met g.walked told e).line
+  line = m.line
 
   abbrev walked : LinesRead text (g.done ++ (line ∷ [])) after
-  walked = lines_on g.walked told e
+  walked = lines_on g.walked m
 
   -- The contents of all lines: of those done, of this one, and of the rest.
   parted : (rest : List Line) × (contents_in tag text ≡ map its (fields_in tag g.done) ++ (map its (fields_in tag (line ∷ [])) ++ map its (fields_in tag rest)))
@@ -170,7 +187,7 @@ module _ (text : List ℕ) {tag : ℕ} {start buffer : List ℕ} {at end : ℕ} 
   line_here : (rest : List Line) × (lines_at text fresh at ≡ accepted (line ∷ rest))
   line_here =
       let t = through (lines_at text fresh after) (λ rest. accepted ((g.done ++ (line ∷ [])) ++ rest)) (sym walked.reads ∙ f.read) in
-      (t.value, (met g.walked told e).reads ∙ ap (λ (o : Reading (List Line)). and_then o (λ lines. accepted (line ∷ lines))) t.first)
+      (t.value, m.reads ∙ ap (λ (o : Reading (List Line)). and_then o (λ lines. accepted (line ∷ lines))) t.first)
 
   line_small : tag_of line ≡ tag → length (numbers_of line) ≤ 17
   line_small own =
@@ -191,7 +208,7 @@ module _ (text : List ℕ) {tag : ℕ} {start buffer : List ℕ} {at end : ℕ} 
         line = line;
         rest = line_here.0;
         here = line_here.1;
-        briefly = (met g.walked told e).briefly;
+        briefly = m.briefly;
         within = g.walked.within;
         small = line_small;
         fits = omega arith;

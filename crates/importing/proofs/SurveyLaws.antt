@@ -3,19 +3,15 @@
 use mathlib.Core.Path.{◌≡◌, refl, sym, ap, ◌∙◌}
 use mathlib.Core.List.{List, [], ◌∷◌, ◌++◌}
 use Prim.Native.Nat.{ℕ}
-use native.Mathlib.Omega.{arith}
 use Rattle.text.specs.declared.line.Brief.{Brief}
-use Rattle.text.specs.declared.line.LineRead.{LineRead}
-use Rattle.text.specs.declared.line.LineRead.TheVariants as read
 use Rattle.text.specs.Lines.{TextRefusal}
 use Rattle.text.specs.Lines.{Reading, accepted, refused, Line, fresh, lines_of}
 use Rattle.text.specs.Typed.{named_in, larger, count_of, program_typed}
 use Rattle.text.specs.Briefly.{brief}
-use Rattle.text.specs.LineAnswers.{LineTells}
+use Rattle.text.specs.LineAnswers.{lines_at, LineEnds}
 use Rattle.text.proofs.BriefLaws.{count_append, named_append}
-use Rattle.importing.specs.declared.surveying.Surveyed.TheVariants.{Atoms, Refused}
 use Rattle.importing.specs.Passes.{lines_in, Typed, typed, survey_answer}
-use Rattle.importing.proofs.LinesWalked.{LinesRead, lines_start, lines_over, met, lines_on}
+use Rattle.importing.proofs.LinesWalked.{LinesRead, lines_start, lines_over, lines_refused, lines_on}
 
 pub record Surveying (text : List ℕ) (at atoms : ℕ) : Type 0 where
   pub done : List Line
@@ -30,17 +26,19 @@ above_is : (line : Line) → (brief line).above ≡ count_of (named_in (line ∷
 unfolding brief
 above_is line = refl
 
-module _ {text : List ℕ} {at atoms : ℕ} (g : Surveying text at atoms) {got : LineRead} (told : LineTells text fresh at got) where
-  pub survey_over : got ≡ read.End → Atoms atoms ≡ survey_answer (lines_of text)
-  survey_over e = ap Atoms g.counted ∙ ap survey_answer (sym (lines_over g.walked told e))
+module _ {text : List ℕ} {at atoms : ℕ} (g : Surveying text at atoms) where
+  pub survey_over : lines_at text fresh at ≡ accepted [] → accepted atoms ≡ survey_answer (lines_of text)
+  survey_over e = ap accepted g.counted ∙ ap survey_answer (sym (lines_over g.walked e))
 
-  pub survey_on : {b : Brief} {after n : ℕ} → got ≡ read.Line b after → n ≡ larger atoms b.above → Surveying text after n
-  survey_on {b} {after} {n} e q =
-      let m = met g.walked told e in
+  pub survey_refused : {r : TextRefusal} → lines_at text fresh at ≡ refused r → refused r ≡ survey_answer (lines_of text)
+  survey_refused e = ap survey_answer (sym (lines_refused g.walked e))
+
+  pub survey_on : {b : Brief} {after n : ℕ} → LineEnds text fresh at b after → n ≡ larger atoms b.above → Surveying text after n
+  survey_on {b} {after} {n} m q =
       let here = ap (λ (x : Brief). x.above) m.briefly ∙ above_is m.line in
       record {
         done = g.done ++ (m.line ∷ []);
-        walked = lines_on g.walked told e;
+        walked = lines_on g.walked m;
         counted =
             q
             ∙ ap (λ (x : ℕ). larger x b.above) g.counted
@@ -51,25 +49,22 @@ module _ {text : List ℕ} {at atoms : ℕ} (g : Surveying text at atoms) {got :
 
 -- ---- what the answer tells
 
-apart : {X : Type 0} → ◌≡◌ {A = ℕ} 0 1 → X
-apart z = absurd (omega arith)
-
 module _ (text : List ℕ) where
-  pub surveyed_refused : {r : TextRefusal} → survey_answer (lines_of text) ≡ Refused r → lines_of text ≡ refused r
+  pub surveyed_refused : {r : TextRefusal} → refused r ≡ survey_answer (lines_of text) → lines_of text ≡ refused r
   surveyed_refused {r} e = go (lines_of text) e
     where
-      go : (o : Reading (List Line)) → survey_answer o ≡ Refused r → o ≡ refused r
-      go (accepted lines) e = apart (cc)
-      go (refused x) e = let q : x ≡ r = cc in ap refused q
+      go : (o : Reading (List Line)) → refused r ≡ survey_answer o → o ≡ refused r
+      go (accepted lines) e = absurd (cc)
+      go (refused x) e = let same : x ≡ r = cc in ap refused same
 
-  module _ {n : ℕ} (e : survey_answer (lines_of text) ≡ Atoms n) where
-    lines_of_lem : (o : Reading (List Line)) → lines_of text ≡ o → survey_answer o ≡ Atoms n → (Typed text) × (n ≡ count_of (named_in (lines_in text)))
+  module _ {n : ℕ} (e : accepted n ≡ survey_answer (lines_of text)) where
+    lines_of_lem : (o : Reading (List Line)) → lines_of text ≡ o → accepted n ≡ survey_answer o → (Typed text) × (n ≡ count_of (named_in (lines_in text)))
     unfolding lines_in
     lines_of_lem (accepted lines) q f =
         let same : lines_in text ≡ lines = rw q in
-        let k : count_of (named_in lines) ≡ n = cc in
-        (q ∙ ap accepted (sym same), sym k ∙ ap (λ (l : List Line). count_of (named_in l)) (sym same))
-    lines_of_lem (refused r) q f = apart (cc)
+        let k : n ≡ count_of (named_in lines) = cc in
+        (q ∙ ap accepted (sym same), k ∙ ap (λ (l : List Line). count_of (named_in l)) (sym same))
+    lines_of_lem (refused r) q f = absurd (cc)
 
     pub surveyed_read : Typed text
     surveyed_read = (lines_of_lem (lines_of text) refl e).0

@@ -1,5 +1,6 @@
 -- The passes over the lines of a text, and what each answers.
-use Rattle.std.specs.Prelude.{◌≡◌, Bool, false, not, ◌&&◌, cond, List, [], ◌∷◌, ◌++◌, map, ℕ, zero, suc, ◌+◌, ◌*◌, ◌-◌, ◌≤◌, eqb, length, get_or, take, set}
+use Rattle.std.specs.Prelude.{◌≡◌, Bool, false, not, ◌&&◌, Result, Ok, Err, cond, List, [], ◌∷◌, map}
+use Rattle.std.specs.Prelude.{ℕ, zero, suc, ◌+◌, ◌*◌, ◌-◌, ◌≤◌, eqb, length, get_or}
 use Rattle.papers.specs.Program.{Program}
 use Rattle.papers.specs.Outcome.{check}
 use Rattle.papers.specs.Field.{length_allowed}
@@ -7,22 +8,17 @@ use Rattle.papers.specs.Content.{is_among}
 use Rattle.papers.specs.Encoding.{encode_numbers, encode_field, encode_run, encode_file}
 use Rattle.papers.specs.Valid.{All}
 use Rattle.papers.specs.Answers.{fields_length}
+use Rattle.text.specs.declared.TextRefusal as answer
 use Rattle.text.specs.declared.line.Brief.{Brief}
 use Rattle.dual.specs.Bytes.{Fills}
 use Rattle.text.specs.Lines.{Reading, accepted, refused, Line, fresh, lines_of}
 use Rattle.text.specs.Typed.{Placed, placed, its, declared_in, named_in, count_of, program_typed}
 use Rattle.text.specs.Importing.{check_run, import_text}
-use Rattle.text.specs.Briefly.{tag_of, start_of, numbers_of, brief}
+use Rattle.text.specs.Briefly.{tag_of, tag_byte, start_of, numbers_of, brief}
+use Rattle.text.specs.Told.{refusal_of}
 use Rattle.text.specs.LineAnswers.{lines_at}
 use Rattle.text.specs.LineNumbers.{padded}
-use Rattle.importing.specs.declared.surveying.Surveyed.{Surveyed}
-use Rattle.importing.specs.declared.surveying.Surveyed.TheVariants as surveyed
-use Rattle.importing.specs.declared.declaring.Declared.{Declared}
 use Rattle.importing.specs.declared.declaring.Abducibles.{Abducibles}
-use Rattle.importing.specs.declared.checking.RunChecked.{RunChecked}
-use Rattle.importing.specs.declared.checking.RunChecked.TheVariants as checked
-use Rattle.importing.specs.declared.checking.RunsChecked.{RunsChecked}
-use Rattle.importing.specs.declared.checking.RunsChecked.TheVariants as both
 
 -- The lines of a text that was read. Of a refused one they are of no use: none.
 unfoldable pub lines_in : List ℕ → List Line
@@ -40,15 +36,15 @@ typed text = program_typed (lines_in text)
 
 -- ---- the first: 17 and 18, and the atom count
 
-abbrev pub survey_answer : Reading (List Line) → Surveyed
-survey_answer (accepted lines) = surveyed.Atoms (count_of (named_in lines))
-survey_answer (refused r) = surveyed.Refused r
+abbrev pub survey_answer : Reading (List Line) → Reading ℕ
+survey_answer (accepted lines) = accepted (count_of (named_in lines))
+survey_answer (refused r) = refused r
 
 -- ---- the second: the abducibles
 
 -- Whether a line declares an atom whose flag is not set.
 unfoldable pub new_in : Brief → List Bool → Bool
-new_in b flags = eqb b.tag 0x03 && not (get_or flags b.atom false)
+new_in b flags = eqb (tag_byte b.kind) 0x03 && not (get_or flags b.atom false)
 
 -- The flags that are set are those of these atoms.
 abbrev pub Flagged : List Bool → List ℕ → Type 0
@@ -58,9 +54,9 @@ abbrev pub declared_names : List ℕ → List ℕ
 declared_names text = map its (declared_in (lines_in text))
 
 -- They are the declared ones and there are not too many; or the refusal.
-pub record DeclareTells (text : List ℕ) (d : Declared) : Type 0 where
-  pub flags : d.refusal.number ≡ 0 → Flagged d.flags (declared_names text) × (length (typed text).abducibles ≤ 16)
-  pub refuses : (d.refusal.number ≡ 0 → ⊥) → import_text text ≡ refused d.refusal
+abbrev pub DeclareTells : List ℕ → Result (List Bool) answer.TextRefusal → Type 0
+DeclareTells text (Ok flags) = Flagged flags (declared_names text) × (length (typed text).abducibles ≤ 16)
+DeclareTells text (Err r) = import_text text ≡ refused (refusal_of r)
 
 -- Of `count` atoms from one on those whose flag is set.
 unfoldable pub flagged_from : List Bool → ℕ → ℕ → List ℕ
@@ -72,10 +68,6 @@ flagged_from flags atom (suc count) =
 -- Atoms, by how many they are and the first 17 of them.
 abbrev pub list_of : List ℕ → Abducibles
 list_of atoms = record { count = length atoms; numbers = padded 17 atoms }
-
--- One more, if it is flagged.
-unfoldable pub listed_with : Abducibles → ℕ → Bool → Abducibles
-listed_with list atom flag = cond flag (record { count = list.count + 1; numbers = set list.numbers list.count atom }) list
 
 -- ---- the third and the fourth: the rules and the integrity rules, by their tag
 
@@ -96,23 +88,24 @@ fixed_in b tag flags = eqb tag 0x04 && get_or flags b.atom false
 -- The number by which a line fails that is of the tag, where there is room for so many more: count (9), length (3), head (8).
 unfoldable pub line_number : Brief → ℕ → ℕ → Bool → ℕ
 line_number b tag room fixed =
-    cond (eqb b.tag tag)
+    cond (eqb (tag_byte b.kind) tag)
     (check (not (eqb room 0)) 9 (check (length_allowed tag (2 * b.count)) 3 (check (not fixed) 8 0)))
     0
 
 unfoldable pub room_after : Brief → ℕ → ℕ → ℕ
-room_after b tag room = cond (eqb b.tag tag) (room - 1) room
+room_after b tag room = cond (eqb (tag_byte b.kind) tag) (room - 1) room
 
 unfoldable pub size_after : Brief → ℕ → ℕ → ℕ
-size_after b tag size = cond (eqb b.tag tag) (size + (3 + 2 * b.count)) size
+size_after b tag size = cond (eqb (tag_byte b.kind) tag) (size + (3 + 2 * b.count)) size
 
 -- The fields of a tag pass the checks of `read_run` and have so many bytes, or fail them by this refusal.
-abbrev pub RunTells : List ℕ → ℕ → ℕ → RunChecked → Type 0
-RunTells text tag most (checked.Length size) =
+abbrev pub RunTells : List ℕ → ℕ → ℕ → Result ℕ answer.TextRefusal → Type 0
+RunTells text tag most (Ok size) =
     ((next : Reading Program) → check_run tag (typed text).atoms (typed text).abducibles most (fields_in tag (lines_in text)) next ≡ next)
     × (size ≡ fields_length (contents_in tag text))
-RunTells text tag most (checked.Refused r) =
-    (next : Reading Program) → check_run tag (typed text).atoms (typed text).abducibles most (fields_in tag (lines_in text)) next ≡ refused r
+RunTells text tag most (Err r) =
+    (next : Reading Program) → check_run tag (typed text).atoms (typed text).abducibles most (fields_in tag (lines_in text)) next
+    ≡ refused (refusal_of r)
 
 -- Their checks one after the other.
 abbrev pub runs_checked : List ℕ → Reading Program → Reading Program
@@ -121,11 +114,11 @@ runs_checked text next =
     (check_run 0x05 (typed text).atoms (typed text).abducibles 256 (fields_in 0x05 (lines_in text)) next)
 
 -- The rules pass, and then the integrity rules; the lengths of both.
-abbrev pub RunsTell : List ℕ → RunsChecked → Type 0
-RunsTell text (both.Lengths rules integrity) =
+abbrev pub RunsTell : List ℕ → Result (ℕ × ℕ) answer.TextRefusal → Type 0
+RunsTell text (Ok lengths) =
     ((next : Reading Program) → runs_checked text next ≡ next)
-    × ((rules ≡ fields_length (contents_in 0x04 text)) × (integrity ≡ fields_length (contents_in 0x05 text)))
-RunsTell text (both.Refused r) = (next : Reading Program) → runs_checked text next ≡ refused r
+    × ((lengths.0 ≡ fields_length (contents_in 0x04 text)) × (lengths.1 ≡ fields_length (contents_in 0x05 text)))
+RunsTell text (Err r) = (next : Reading Program) → runs_checked text next ≡ refused (refusal_of r)
 
 -- ---- the last two: writing them
 
@@ -162,19 +155,6 @@ pub record Sized (text : List ℕ) : Type 0 where
   pub read : Typed text
   pub rules : All (Within 17) (contents_in 0x04 text)
   pub integrity : All (Within 17) (contents_in 0x05 text)
-
--- The bytes of its file from each field on.
-unfoldable pub from_integrity : List ℕ → List ℕ
-from_integrity text = encode_run 0x05 (contents_in 0x05 text) ++ encode_field 0x7F []
-
-unfoldable pub from_rules : List ℕ → List ℕ
-from_rules text = encode_run 0x04 (contents_in 0x04 text) ++ from_integrity text
-
-unfoldable pub from_abducibles : Abducibles → List ℕ → List ℕ
-from_abducibles list text = encode_field 0x03 (encode_numbers (take list.count list.numbers)) ++ from_rules text
-
-unfoldable pub from_atoms : ℕ → Abducibles → List ℕ → List ℕ
-from_atoms atoms list text = encode_field 0x02 (encode_numbers (atoms ∷ [])) ++ from_abducibles list text
 
 -- There is room for the file of a text that may be imported.
 pub record FileFits (text : List ℕ) (atoms : ℕ) (list : Abducibles) (room : ℕ) : Type 0 where

@@ -1,24 +1,16 @@
 -- `importing::checking::check_runs` meets its contract.
 use native.Mathlib.Omega.{arith}
-use Rattle.importing.proofs.RunLaws.{rules_refuse, then_refuse, then_pass}
+use Rattle.std.proofs.lemmas.Result.{err_from_is_err_and}
+use Rattle.importing.proofs.RunLaws.{rules_refuse, then_pass}
 use Rattle.importing.proofs.checking.check_runs.Goals as goal
 
-pub check_run-rules-requires : goal.check_run-rules-requires
-check_run-rules-requires c = let p = c.requires in (p.0, (p.1, (omega arith, (omega arith, omega arith))))
+pub check_run-requires : goal.check_run-requires
+check_run-requires c = let p = c.requires in (p.0, (p.1, (omega arith, omega arith)))
 
-pub returns-in-Refused : goal.returns-in-Refused
-returns-in-Refused c = rules_refuse c.args.text.now c.check_run-rules.ensures
-    c.in-Refused.is
+pub returns-in_err-rules : goal.returns-in_err-rules
+returns-in_err-rules c =
+    let p = err_from_is_err_and c.from_residual.result c.from_residual.ensures.1 in
+    rw (p.1, p.2) (rules_refuse c.args.text.now _ c.in_err-rules.ensures)
 
-pub check_run-integrity-requires : goal.check_run-integrity-requires
-check_run-integrity-requires c = let p = c.requires in (p.0, (p.1, (omega arith, (omega arith, omega arith))))
-
-pub returns-in-Refused-integrity : goal.returns-in-Refused-integrity
-returns-in-Refused-integrity c =
-    then_refuse c.args.text.now c.check_run-rules.ensures c.in-Length.is
-    c.check_run-integrity.ensures c.in-Refused-integrity.is
-
-pub returns-in-Length-integrity : goal.returns-in-Length-integrity
-returns-in-Length-integrity c =
-    then_pass c.args.text.now c.check_run-rules.ensures c.in-Length.is c.check_run-integrity.ensures
-    c.in-Length-integrity.is
+pub returns : goal.returns
+returns c = then_pass c.args.text.now c.in_ok-rules.ensures c.in_ok-integrity.ensures

@@ -1,39 +1,57 @@
 -- `importing::declaring::declare` meets its contract. The loop's invariant: the flags are those of the atoms declared so far.
-use mathlib.Core.Path.{◌≡◌, refl}
-use Prim.Native.Nat.{ℕ}
+use mathlib.Core.Path.{refl}
 use native.Mathlib.Omega.{arith}
-use Rattle.importing.proofs.LinesWalked.{lines_end, lines_less, lines_on}
-use Rattle.importing.proofs.DeclareLaws.{declare_start, no_flags, declare_over, declare_on, declare_full}
+use Rattle.std.proofs.lemmas.Result.{err_from_is_err_and}
+use Rattle.text.specs.declared.line.LineKind.TheVariants.{Abducible}
+use Rattle.text.specs.Lines.{fresh}
+use Rattle.text.specs.LineAnswers.{LineEnds}
+use Rattle.importing.proofs.LineKinds.{same_kind, other_kind}
+use Rattle.importing.proofs.LinesWalked.{lines_over, lines_refused, no_refusal}
+use Rattle.importing.proofs.DeclareLaws.{declare_start, no_flags, declare_over, other_declared, again_declared, new_declared, none_left}
 use Rattle.importing.proofs.declaring.declare.Goals as goal
+use Rattle.importing.proofs.declaring.declare.Goals.{In-Some, else-eq-via-then-eq+else-not-flags-atom, else-eq-via-else-eq}
+
+module _ (c : In-Some) where
+  ends : LineEnds c.args.text.now fresh c.loop-line.at c.in-Some.line c.in-Some.end
+  ends = rw c.in-Some.is at c.in_ok-line.ensures
 
 pub loop-line-init : goal.loop-line-init
 loop-line-init c = declare_start _ _ refl no_flags
 
-pub read_line-read-requires : goal.read_line-read-requires
-read_line-read-requires c = c.loop-line.invariant.walked.within
+pub returns-in_err-line : goal.returns-in_err-line
+returns-in_err-line c =
+    let p = err_from_is_err_and c.from_residual.result c.from_residual.ensures.1 in
+    rw (p.1, p.2) (no_refusal c.args.text.now c.requires (lines_refused c.loop-line.invariant.walked c.in_err-line.ensures))
 
-pub returns-in_default : goal.returns-in_default
-returns-in_default c =
-    let at = c.loop-line in
-    let text = c.args.text.now in
-    let was = c.requires in
-    let end = lines_end text was at.invariant.walked c.read_line-read.result c.read_line-read.ensures c.in_default.not-Line in
-    record { flags = λ z. declare_over text was at.invariant end; refuses = λ bad. absurd (bad refl) }
+pub returns-then-room-eq0 : goal.returns-then-room-eq0
+returns-then-room-eq0 c =
+    none_left c.args.text.now c.requires c.loop-line.invariant (ends (goal.at.returns-then-room-eq0 c).In-Some)
+    (same_kind c.in-Some.line.kind Abducible c.eq.ensures c.if-eq.true) c.from-atom.ensures c.if-not-flags-atom.true c.if-room-eq0.true
 
-pub returns-then-new-room : goal.returns-then-new-room
-returns-then-new-room c =
-    let full = declare_full c.args.text.now c.requires c.loop-line.invariant c.read_line-read.ensures
-    c.in-Line.is c.is_new-new.ensures c.if-new-room.true in
-    record { flags = λ z. absurd (let q : ◌≡◌ {A = ℕ} 3 0 = z in omega arith); refuses = λ bad. full }
-
-pub loop-line-smaller : goal.loop-line-smaller
-loop-line-smaller c =
-    let walked = c.loop-line.invariant.walked in
-    let less = lines_less walked c.read_line-read.ensures c.in-Line.is in
-    let on = lines_on walked c.read_line-read.ensures c.in-Line.is in
-    omega (arith, less, on.within)
+pub loop-line-preserved-else-room-eq0 : goal.loop-line-preserved-else-room-eq0
+loop-line-preserved-else-room-eq0 c =
+    new_declared c.args.text.now c.requires c.loop-line.invariant (ends (goal.at.loop-line-preserved-else-room-eq0 c).In-Some)
+    (same_kind c.in-Some.line.kind Abducible c.eq.ensures c.if-eq.true) c.from-atom.ensures c.if-not-flags-atom.true c.if-room-eq0.false
 
 pub loop-line-preserved : goal.loop-line-preserved
 loop-line-preserved c =
-    declare_on c.args.text.now c.requires c.loop-line.invariant c.read_line-read.ensures c.in-Line.is
-    c.is_new-new.ensures c.if-new-room.false c.room_left-room.ensures c.flag-more.ensures
+    let m = ends (goal.at.loop-line-preserved c).In-Some in
+    elim c.else-eq.branch [
+      | else-eq-via-then-eq+else-not-flags-atom w ↦
+          again_declared c.args.text.now c.requires c.loop-line.invariant m
+          (same_kind c.in-Some.line.kind Abducible c.eq.ensures w.if-eq.true) c.from-atom.ensures
+          w.if-not-flags-atom.false
+      | else-eq-via-else-eq w ↦
+          other_declared c.args.text.now c.requires c.loop-line.invariant m (other_kind c.in-Some.line.kind Abducible c.eq.ensures w.if-eq.false)
+    ]
+
+pub loop-line-smaller-else-room-eq0 : goal.loop-line-smaller-else-room-eq0
+loop-line-smaller-else-room-eq0 c = let m = ends (goal.at.loop-line-smaller-else-room-eq0 c).In-Some in omega (arith, m.later, m.within)
+
+pub loop-line-smaller : goal.loop-line-smaller
+loop-line-smaller c = let m = ends (goal.at.loop-line-smaller c).In-Some in omega (arith, m.later, m.within)
+
+pub returns : goal.returns
+returns c =
+    let g = c.loop-line.invariant in
+    declare_over c.args.text.now c.requires g (lines_over g.walked (rw c.in_default.is at c.in_ok-line.ensures))

@@ -1,34 +1,27 @@
 -- `importing::declaring::rising` meets its contract. The loop's invariant: the flagged atoms up to here are listed.
-use mathlib.Core.Path.{◌≡◌, ap, ◌∙◌}
-use Prim.Native.Nat.{ℕ}
+use mathlib.Core.Path.{refl, ◌∙◌}
 use native.Mathlib.Omega.{arith}
-use lib.ListN.{length}
 use Rattle.text.specs.LineNumbers.{padded}
-use Rattle.text.proofs.Gathering.{padded_length}
-use Rattle.importing.specs.declared.declaring.Abducibles.{Abducibles}
-use Rattle.importing.specs.Passes.{flagged_from, list_of}
-use Rattle.importing.proofs.RisingLaws.{listed_start, listed_more, flagged_few}
+use Rattle.importing.specs.Passes.{flagged_from}
+use Rattle.importing.proofs.RisingLaws.{flagged_few, one_listed, none_listed}
 use Rattle.importing.proofs.declaring.rising.Goals as goal
+use Rattle.importing.proofs.declaring.rising.Goals.{then-flags-atom, else-flags-atom}
 
 pub loop-atom-init : goal.loop-atom-init
-unfolding padded
-loop-atom-init c = (omega arith, listed_start c.args.flags)
+unfolding padded flagged_from
+loop-atom-init c = (refl, refl)
 
-pub listed-list-requires : goal.listed-list-requires
-listed-list-requires c =
-    let at = c.loop-atom in
-    let count = ap (λ (l : Abducibles). l.count) at.invariant.1 in
-    let few = flagged_few c.args.flags 0 at.atom in
-    let all = ap (λ (l : Abducibles). length l.numbers) at.invariant.1 ∙ padded_length 17 (flagged_from c.args.flags 0 at.atom) in
-    (omega arith, (omega arith, all))
+pub overflow_add-count : goal.overflow_add-count
+overflow_add-count c = let few = flagged_few c.args.flags.now 0 c.loop-atom.atom in omega (arith, c.loop-atom.invariant.0, few)
 
 pub loop-atom-preserved : goal.loop-atom-preserved
 loop-atom-preserved c =
-    let at = c.loop-atom in
-    (omega arith, listed_more c.args.flags at.atom at.invariant.1 c.flag_at.ensures c.listed-list.ensures)
-
-pub returns : goal.returns
-returns c =
-    let at = c.loop-atom in
-    let all : at.atom ≡ c.args.atoms = omega (arith, c.loop-atom-test.false, at.invariant.0) in
-    at.invariant.1 ∙ ap (λ (n : ℕ). list_of (flagged_from c.args.flags 0 n)) all
+    let g = c.loop-atom.invariant in
+    elim c.if-flags-atom.branch [
+      | then-flags-atom w ↦
+          let more = one_listed c.args.flags.now c.loop-atom.atom g.0 g.1 w.if-flags-atom.true in
+          (w.count-is ∙ more.0, w.numbers-is ∙ w.put.ensures ∙ more.1)
+      | else-flags-atom w ↦
+          let same = none_listed c.args.flags.now c.loop-atom.atom g.0 g.1 w.if-flags-atom.false in
+          (w.count-is ∙ same.0, w.numbers-is ∙ same.1)
+    ]
