@@ -19,6 +19,7 @@ pub struct Counts {
 }
 
 // All three, and both orders with their parts: a rule asks for an o of its body, an entry for the o of a not(o) that it lists.
+// Five slices, since any of these lengths or longer ones will do (`Room`): a struct of arrays would fix the lengths.
 pub fn prepare(
     file: &[u8],
     contents: Contents,
@@ -38,9 +39,7 @@ pub fn prepare(
         entry_visits.old entry_visits.new asked.old asked.new result }
 {
     let judged = literals::judged(contents.atoms);
-    let listed = contents.rules;
-    let integrity = contents.integrity;
-    let count = listed.count + integrity.count;
+    let count = contents.rules.count + contents.integrity.count;
     let mut rule_starts = [0u16; 1280];
     let mut entry_starts = [0u16; 513];
     decode_rules(file, contents, places, rules, &mut rule_starts);

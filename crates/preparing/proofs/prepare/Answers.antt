@@ -55,16 +55,21 @@ module _ (c : After-judged-judged) where
 -- ---- one call after the other
 
 pub overflow_add-count : goal.overflow_add-count
-overflow_add-count c = omega (arith, few (goal.at.overflow_add-count c).Start)
+overflow_add-count c =
+    let at_start = (goal.at.overflow_add-count c).Start in
+    omega (arith, few at_start)
 
 pub decode_dual-requires : goal.decode_dual-requires
 decode_dual-requires c =
-    (c.requires.0.starts, (counted (goal.at.decode_dual-requires c).After-judged-judged, (c.requires.1.entries_fit, omega arith)))
+    let at_judged = (goal.at.decode_dual-requires c).After-judged-judged in
+    (c.requires.0.starts, (counted at_judged, (c.requires.1.entries_fit, omega arith)))
 
 pub order_rows-requires : goal.order_rows-requires
 order_rows-requires c =
-    let few-entries = judged_few (goal.at.order_rows-requires c).After-judged-judged in
-    let few-rules = few (goal.at.order_rows-requires c).Start in (
+    let at_judged = (goal.at.order_rows-requires c).After-judged-judged in
+    let at_start = (goal.at.order_rows-requires c).Start in
+    let few-entries = judged_few at_judged in
+    let few-rules = few at_start in (
       few-entries,
       (
         few-rules,
@@ -89,29 +94,35 @@ module _ (o : After-order_rows) where
 
   rules_unmarked : Unmarked (count (goal.at.After-order_rows o).Start) rules_ordered
   rules_unmarked =
-      let p = program (goal.at.After-order_rows o).Start in
-      visits_unmarked (rule_rows p) _ o.decode_rules.new.starts rules_ordered (count (goal.at.After-order_rows o).Start) (rules_listed (goal.at.After-order_rows o).Start)
+      let start = (goal.at.After-order_rows o).Start in
+      let p = program start in
+      visits_unmarked (rule_rows p) _ o.decode_rules.new.starts rules_ordered (count start) (rules_listed start)
       (omega (arith, rule_rows_bound p o.requires.0.starts.valid)) o.decode_rules.ensures.1 o.order_rows.ensures.1.0
 
   entries_unmarked : Unmarked o.judged-judged.result entries_ordered
   entries_unmarked =
       let p = program (goal.at.After-order_rows o).Start in
-      visits_unmarked (entry_rows p) _ o.decode_dual.new.starts entries_ordered o.judged-judged.result (entries_listed (goal.at.After-order_rows o).After-judged-judged)
+      let listed = entries_listed (goal.at.After-order_rows o).After-judged-judged in
+      visits_unmarked (entry_rows p) _ o.decode_dual.new.starts entries_ordered o.judged-judged.result listed
       (omega (arith, entry_rows_bound p o.requires.0.starts.valid)) o.decode_dual.ensures.1 o.order_rows.ensures.0.0
 
 -- ---- where they are marked
 
 pub mark_parts-requires : goal.mark_parts-requires
 mark_parts-requires c =
-    let few-rules = few (goal.at.mark_parts-requires c).Start in
+    let at_start = (goal.at.mark_parts-requires c).Start in
+    let at_ordered = (goal.at.mark_parts-requires c).After-order_rows in
+    let few-rules = few at_start in
     let long = c.order_rows.ensures.1.1.sized in
-    (few-rules, (omega (arith, c.requires.1.rule_visits_fit), rules_unmarked (goal.at.mark_parts-requires c).After-order_rows))
+    (few-rules, (omega (arith, c.requires.1.rule_visits_fit), rules_unmarked at_ordered))
 
 pub mark_parts-requires-2 : goal.mark_parts-requires-2
 mark_parts-requires-2 c =
-    let few-entries = judged_few (goal.at.mark_parts-requires-2 c).After-judged-judged in
+    let at_judged = (goal.at.mark_parts-requires-2 c).After-judged-judged in
+    let at_ordered = (goal.at.mark_parts-requires-2 c).After-order_rows in
+    let few-entries = judged_few at_judged in
     let long = c.order_rows.ensures.0.1.sized in
-    (omega arith, (omega (arith, c.requires.1.entry_visits_fit), entries_unmarked (goal.at.mark_parts-requires-2 c).After-order_rows))
+    (omega arith, (omega (arith, c.requires.1.entry_visits_fit), entries_unmarked at_ordered))
 
 pub copy_numbers-requires : goal.copy_numbers-requires
 copy_numbers-requires c =
@@ -122,21 +133,25 @@ shape_of-rules c = c.decode_rules.auto.numbers
 
 pub returns : goal.returns
 returns c =
+    let at_start = (goal.at.returns c).Start in
+    let at_ordered = (goal.at.returns c).After-order_rows in
+    let at_judged = (goal.at.returns c).After-judged-judged in
     let copied = c.copy_numbers in
     let folds = rules_counted c.args.file.now c.args.contents c.requires.0.walked.answer in
     let asked = sym (count_numbers c.args.query.now) in
     record {
       rules_in_lem =
-          rows_prepared 0 (rule_rows (program (goal.at.returns c).Start)) c.args.rules.now c.decode_rules.new.numbers c.args.rule_visits.now
-          (rules_ordered (goal.at.returns c).After-order_rows) c.mark_parts.new.visits (rules_room (goal.at.returns c).Start) (omega (arith, few (goal.at.returns c).Start, rules_listed (goal.at.returns c).Start, c.requires.1.rule_visits_fit)) _
-          c.decode_rules.new.starts c.decode_rules.ensures.0 c.decode_rules.ensures.1 (count (goal.at.returns c).Start) (rules_listed (goal.at.returns c).Start)
+          rows_prepared 0 (rule_rows (program at_start)) c.args.rules.now c.decode_rules.new.numbers c.args.rule_visits.now
+          (rules_ordered at_ordered) c.mark_parts.new.visits (rules_room at_start)
+          (omega (arith, few at_start, rules_listed at_start, c.requires.1.rule_visits_fit)) _
+          c.decode_rules.new.starts c.decode_rules.ensures.0 c.decode_rules.ensures.1 (count at_start) (rules_listed at_start)
           c.order_rows.ensures.1.0 c.order_rows.ensures.1.1 c.mark_parts.ensures.0 c.mark_parts.ensures.1;
       entries_in =
-          rows_prepared 1 (entry_rows (program (goal.at.returns c).Start)) c.args.entries.now c.decode_dual.new.numbers c.args.entry_visits.now
-          (entries_ordered (goal.at.returns c).After-order_rows) c.mark_parts-2.new.visits (entries_room (goal.at.returns c).Start)
-          (omega (arith, judged_few (goal.at.returns c).After-judged-judged, entries_listed (goal.at.returns c).After-judged-judged, c.requires.1.entry_visits_fit)) _
-          c.decode_dual.new.starts c.decode_dual.ensures.0 c.decode_dual.ensures.1 c.judged-judged.result (entries_listed (goal.at.returns c).After-judged-judged)
+          rows_prepared 1 (entry_rows (program at_start)) c.args.entries.now c.decode_dual.new.numbers c.args.entry_visits.now
+          (entries_ordered at_ordered) c.mark_parts-2.new.visits (entries_room at_start)
+          (omega (arith, judged_few at_judged, entries_listed at_judged, c.requires.1.entry_visits_fit)) _
+          c.decode_dual.new.starts c.decode_dual.ensures.0 c.decode_dual.ensures.1 c.judged-judged.result (entries_listed at_judged)
           c.order_rows.ensures.0.0 c.order_rows.ensures.0.1 c.mark_parts-2.ensures.0 c.mark_parts-2.ensures.1;
       query_in = copied.ensures ∙ laid_first (numbers c.args.query.now) c.args.asked.now;
-      counted = λ i. record { folds = folds i; judged = counted (goal.at.returns c).After-judged-judged i; asked = asked i };
+      counted = λ i. record { folds = folds i; judged = counted at_judged i; asked = asked i };
     }
