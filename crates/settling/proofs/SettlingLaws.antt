@@ -1,14 +1,14 @@
 -- Rounds in sixty-four scenarios at once, from J0 to the models.
 -- Assumes nothing.
 use mathlib.Core.Path.{◌≡◌, refl, sym, ap, subst, ◌∙◌}
-use mathlib.Core.Bool.{Bool, true, false, not, cond, true≢false}
+use mathlib.Core.Bool.{Bool, true, false, cond}
 use mathlib.Core.List.{List}
 use Prim.Native.Nat.{ℕ, suc, ◌+◌, ◌*◌, ◌^◌, ◌≤◌, ◌<◌, min}
 use native.Mathlib.Decide.{dec_lt, ℕ_discrete}
 use native.Mathlib.Omega.{arith}
-use borrow.Author.Tests.{lt-ltb, le-ltb, ltb-true, ltb-false, eqb-true, not-false}
-use lib.Bits.{bit_or, or_lt}
-use lib.Dec.{T, eqb, ltb}
+use borrow.Author.Tests.{lt-ltb, le-ltb, ltb-true, ltb-false}
+use lib.Bits.{bit_or}
+use lib.Dec.{T, ltb}
 use lib.ListN.{get_or, replicate}
 use Rattle.literals.specs.Numbering.{judged}
 use Rattle.papers.specs.Program.{Program}
@@ -21,7 +21,7 @@ use Rattle.lanes.specs.Lanes.{lane_bit, lane, NoneBeyond, Changed, Written}
 use Rattle.digits.specs.Digits.{AbducibleLanes}
 use Rattle.lanes.specs.Words.{other_word, Laned}
 use Rattle.settling.specs.declared.Moved.{Moved}
-use Rattle.settling.specs.RoundLanes.{NextTrue, NextFalse, MadeIf, Round, MarkedLanes, SettledLanes, HeldLanes}
+use Rattle.settling.specs.RoundLanes.{NextTrue, NextFalse, MadeIf, Round, changed_lanes, MarkedLanes, SettledLanes, HeldLanes}
 use Rattle.papers.proofs.TestLaws.{is_false}
 use Rattle.model.proofs.SetLaws.{length_empty, empty_out, set_ext}
 use Rattle.lanes.proofs.LaneLaws.{lane_or, lane_none, words_same, sized, has_lane, lane_same, kept_none, complement_lane}
@@ -185,25 +185,25 @@ module _ (p : Program) (base : ℕ) where
 
   -- What the loop over rounds knows: the interpretation of the last round, whether it was still changing, and that where it left F as it was the next
   -- T is at hand, and where it left T the next F.
-  pub record Settling (j : ℕ) (going : Bool) (t f next-t next-f : List ℕ) (moved : Moved) (counts : List ℕ) : Type 0 where
+  pub record Settling (j : ℕ) (t f next-t next-f : List ℕ) (moved : Moved) (counts : List ℕ) : Type 0 where
     pub lanes : LanesAt j t f
     pub counted : CountedTo j counts
     pub true_beyond : NoneBeyond (judged p.atoms) t
     pub false_beyond : NoneBeyond (judged p.atoms) f
-    pub goes : going ≡ true → j ≤ 2 * judged p.atoms
-    pub rests : going ≡ false → SettledLanes p base t f counts
+    pub goes : (changed_lanes moved ≡ 0 → ⊥) → j ≤ 2 * judged p.atoms
+    pub rests : changed_lanes moved ≡ 0 → SettledLanes p base t f counts
     pub true_next : moved.f ≡ 0 → TrueNext f next-t
     pub false_next : moved.t ≡ 0 → FalseNext t next-f
 
   pub settling_start : {t f : List ℕ} → t ≡ replicate 513 0 → f ≡ replicate 513 0 → (next-t next-f : List ℕ)
-      → Settling 0 true t f next-t next-f (record { t = 1; f = 1 }) (replicate 64 0)
+      → Settling 0 t f next-t next-f (record { t = 1; f = 1 }) (replicate 64 0)
   settling_start e g next-t next-f = rw (e, g) record {
     lanes = lanes_start;
     counted = counted_none;
     true_beyond = record { at = λ o h. get_or_zeros 513 o };
     false_beyond = record { at = λ o h. get_or_zeros 513 o };
     goes = λ e. omega arith;
-    rests = λ e. absurd (true≢false e);
+    rests = λ e. absurd (omega arith);
     true_next = λ e. absurd (omega arith);
     false_next = λ e. absurd (omega arith);
   }
@@ -212,8 +212,8 @@ module _ (p : Program) (base : ℕ) where
   unmoved : {t t' : List ℕ} {w : ℕ} → Changed (judged p.atoms) t t' w → w ≡ 0 → (l : ℕ) → lane (judged p.atoms) l t ≡ lane (judged p.atoms) l t'
   unmoved c e l = c.same l (ap (lane_bit l) e ∙ lane_none l)
 
-  module _ {j : ℕ} {going : Bool} {trues falses next-t made-t next-f made-f t t' f f' counts : List ℕ} {moved moved' : Moved}
-      (a : AbducibleLanes p base trues falses) (s : Settling j going t f next-t next-f moved counts)
+  module _ {j : ℕ} {trues falses next-t made-t next-f made-f t t' f f' counts : List ℕ} {moved moved' : Moved}
+      (a : AbducibleLanes p base trues falses) (s : Settling j t f next-t next-f moved counts)
       (r : Round p trues falses moved moved' next-t made-t next-f made-f t t' f f') where
     abbrev n : ℕ
     n = judged p.atoms
@@ -236,27 +236,20 @@ module _ (p : Program) (base : ℕ) where
     after : LanesAt (j + 1) t' f'
     after = record { true_in = λ l h. true_same l ∙ made.true_in l h; false_in = λ l h. false_same l ∙ made.false_in l h }
 
-    -- The lanes that a round has changed.
-    abbrev changed : ℕ
-    changed = bit_or moved'.t moved'.f
-
-    told : (l : ℕ) → l < 64 → lane_bit l changed ≡ ltb j (rounds p (base + l))
+    told : (l : ℕ) → l < 64 → lane_bit l (changed_lanes moved') ≡ ltb j (rounds p (base + l))
     told l b = changed_lane j t f made-t made-f moved'.t moved'.f l b s.lanes made r.true_moved r.false_moved
 
-    pub settling_next : moved'.t < 2 ^ 64 → moved'.f < 2 ^ 64 → {counts' : List ℕ} → MarkedLanes changed (j + 1) counts counts'
-        → Settling (j + 1) (not (eqb changed 0)) t' f' made-t made-f moved' counts'
-    settling_next k k' {counts' = counts'} marked =
-        let counted = counted_next j changed counts counts' told s.counted marked in
+    pub settling_next : changed_lanes moved' < 2 ^ 64 → {counts' : List ℕ} → MarkedLanes (changed_lanes moved') (j + 1) counts counts'
+        → Settling (j + 1) t' f' made-t made-f moved' counts'
+    settling_next word {counts' = counts'} marked =
+        let counted = counted_next j (changed_lanes moved') counts counts' told s.counted marked in
         record {
           lanes = after;
           counted = counted;
           true_beyond = kept_none r.true_taken.beyond s.true_beyond;
           false_beyond = kept_none r.false_taken.beyond s.false_beyond;
-          goes = λ g.
-              let word = or_lt 64 moved'.t moved'.f k k' in
-              let few = rounds_left j changed word told (λ z. absurd (true≢false (sym g ∙ ap (λ (x : ℕ). not (eqb x 0)) z))) in
-              omega arith;
-          rests = λ g. settled j changed t' f' counts' told (eqb-true changed 0 (not-false (eqb changed 0) g)) after counted;
+          goes = λ g. let few = rounds_left j (changed_lanes moved') word told g in omega arith;
+          rests = λ g. settled j (changed_lanes moved') t' f' counts' told g after counted;
           true_next = λ e. record { at = λ l h. true_next.at l h ∙ ap (true_set p (base + l)) (unmoved r.false_moved e l ∙ sym (false_same l)) };
           false_next = λ e. record { at = λ l h. false_next.at l h ∙ ap (false_set p (base + l)) (unmoved r.true_moved e l ∙ sym (true_same l)) };
         }

@@ -1,2 +1,3 @@
 -- Rounds in 64 lanes.
 pub mod RoundLanes
+pub mod DecodedFiles

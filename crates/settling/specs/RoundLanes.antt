@@ -1,5 +1,6 @@
 -- Rounds in sixty-four scenarios at once. p is a program; `trues` and `falses` are the words of the true and the false abducible literals.
 use Rattle.std.specs.Prelude.{◌≡◌, cond, List, ℕ, ◌+◌, ◌<◌, T, get_or}
+use Rattle.std.specs.Int.Bits.{bit_or}
 use Rattle.literals.specs.Numbering.{judged}
 use Rattle.papers.specs.Program.{Program}
 use Rattle.papers.specs.Valid.{Valid}
@@ -47,6 +48,10 @@ pub record Round (p : Program) (trues falses : List ℕ) (moved moved' : Moved) 
   pub false_moved : Changed (judged p.atoms) f next-f' moved'.f
   pub true_taken : Written (judged p.atoms) (word_at next-t') t t'
   pub false_taken : Written (judged p.atoms) (word_at next-f') f f'
+
+-- The lanes that a round has changed.
+abbrev pub changed_lanes : Moved → ℕ
+changed_lanes moved = bit_or moved.t moved.f
 
 -- A number in the lanes of a word, the others as they were.
 pub record MarkedLanes (word number : ℕ) (before after : List ℕ) : Type 0 where
