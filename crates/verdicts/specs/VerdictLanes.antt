@@ -1,24 +1,21 @@
 -- The verdicts of sixty-four scenarios at once. p is a program, q a query.
 use Rattle.std.specs.Prelude.{◌≡◌, false, not, List, ℕ, ◌+◌, ◌<◌, get_or}
 use Rattle.literals.specs.Numbering.{judged, falsum}
-use Rattle.papers.specs.declared.Contents.{Contents}
 use Rattle.papers.specs.Program.{Program, Query}
 use Rattle.papers.specs.Valid.{ValidQuery}
-use Rattle.papers.specs.declared.FileRead.TheVariants.{Accepted}
-use Rattle.papers.specs.Reading.{read_file, program_in}
-use Rattle.papers.specs.Answers.{file_answer}
+use Rattle.papers.specs.Reading.{program_in}
 use Rattle.papers.specs.Tests.{◌and◌}
 use Rattle.model.specs.Sets.{has}
 use Rattle.model.specs.LeastSet.{body_holds}
 use Rattle.model.specs.Model.{rounds, value_bytes, contradictory, explains}
 use Rattle.lanes.specs.Lanes.{lane_bit, lane}
-use Rattle.settling.specs.RoundLanes.{Decoded}
+use Rattle.settling.specs.DecodedFiles.{FileDecoded}
+use Rattle.verdicts.specs.declared.AskedFile.{AskedFile}
 
 -- Accepted papers decoded: the rules and the dual of the file and the query of the sheet as numbers.
-pub record DecodedPapers (file : List ℕ) (contents : Contents) (rules rule-visits entries entry-visits query : List ℕ) : Type 0 where
-  pub answer : file_answer (read_file file) ≡ Accepted contents
-  pub decoded : Decoded (program_in file) rules rule-visits entries entry-visits
-  pub asked : ValidQuery (program_in file).atoms query
+pub record DecodedPapers (a : AskedFile) : Type 0 where
+  pub file_in : FileDecoded a.decoded
+  pub asked : ValidQuery (program_in a.decoded.file.now).atoms a.query.now
 
 -- The lanes in which one of the first n literals is both true and false.
 pub record BothLanes (n : ℕ) (trues falses : List ℕ) (word : ℕ) : Type 0 where

@@ -1,26 +1,27 @@
 // Which of 64 scenarios are explanations.
 #![tactic(auto)]
 
-ghost use Rattle.std.specs.Prelude.{◌<◌, ◌≤◌};
+ghost use Rattle.std.specs.Prelude.{◌≡◌, ◌≤◌};
 ghost use Rattle.literals.specs.Numbering.{judged};
+ghost use Rattle.papers.specs.Field.{numbers};
 ghost use Rattle.papers.specs.Reading.{program_in};
 ghost use Rattle.lanes.specs.Words.{Literals};
+ghost use Rattle.preparing.specs.Preparing.{PapersStand};
 ghost use Rattle.verdicts.specs.VerdictLanes.{DecodedPapers, BothLanes, ExplainedWord, VerdictLanes};
 
-use lanes::words::{body_word, other_lanes};
+use lanes::words::body_word;
 use papers::Contents;
-use settling::settle_words;
+use preparing::prepare;
+use settling::{DecodedFile, Words};
 
 // The lanes in which one of the first literals is both true and false.
 fn both_lanes(trues: &[u64; 513], falses: &[u64; 513], count: usize) -> u64
     requires { count ≤ 513 }
     ensures { BothLanes count trues.now falses.now result }
 {
-    let mut both: u64 = 0;
-    let mut o: usize = 0;
-    while o < count {
-        both = both | (trues[o] & falses[o]);
-        o += 1;
+    let mut both = 0;
+    for (t, f) in trues[..count].iter().zip(&falses[..count]) {
+        both |= t & f;
     }
     both
 }
@@ -30,14 +31,11 @@ pub fn explained_lanes(query: &[u16], atoms: u16, trues: &[u64; 513], falses: &[
     requires { (atoms ≤ 256) × Literals (judged atoms) query.now }
     ensures { ExplainedWord atoms query.now trues.now falses.now result }
 {
-    let falsum = literals::falsum(atoms);
-    let at = falsum.0;
-    let lanes = other_lanes(trues[at]) & falses[at];
+    let falsum = literals::falsum(atoms).0;
+    let lanes = !trues[falsum] & falses[falsum];
     let holding = body_word(query, trues, falses, lanes);
-    let count = literals::judged(atoms);
-    let both = both_lanes(trues, falses, count);
-    let consistent = other_lanes(both);
-    holding & consistent
+    let both = both_lanes(trues, falses, literals::judged(atoms));
+    holding & !both
 }
 
 // What 64 scenarios come to: which are explanations, and the round count of each.
@@ -47,32 +45,79 @@ pub struct Verdicts {
     pub rounds: [u64; 64],
 }
 
-pub fn judge_lanes(
-    file: &[u8],
-    contents: Contents,
-    rules: &[u16],
-    rule_visits: &[u16],
-    entries: &[u16],
-    entry_visits: &[u16],
-    query: &[u16],
-    base: u64,
-) -> Verdicts
-    requires { DecodedPapers file.now contents rules.now rule_visits.now entries.now entry_visits.now query.now × (base < 4294967296) }
-    ensures { VerdictLanes (program_in file.now) query.now base result.explained result.rounds }
-{
-    let mut t = [0u64; 513];
-    let mut f = [0u64; 513];
-    let rounds = settle_words(
-        file,
-        contents,
-        rules,
-        rule_visits,
-        entries,
-        entry_visits,
-        base,
-        &mut t,
-        &mut f,
-    );
-    let explained = explained_lanes(query, contents.atoms, &t, &f);
-    Verdicts { explained, rounds }
+// Room for the numbers of any papers.
+#[derive(Drop)]
+pub struct Room {
+    rules: [u16; 23040],
+    rule_visits: [u16; 1280],
+    entries: [u16; 28000],
+    entry_visits: [u16; 513],
+    asked: [u16; 16],
+}
+
+impl Room {
+    pub const CLEAR: Room = Room {
+        rules: [0; 23040],
+        rule_visits: [0; 1280],
+        entries: [0; 28000],
+        entry_visits: [0; 513],
+        asked: [0; 16],
+    };
+
+    // Accepted papers, with the dual in its buffer, decoded into the room.
+    pub fn decode<'a>(
+        &'a mut self,
+        file: &'a [u8],
+        contents: Contents,
+        places: &[usize; 1280],
+        dual: &[u8],
+        query: &[u8],
+    ) -> AskedFile<'a>
+        requires { PapersStand file.now contents places.now dual.now query.now }
+        ensures { DecodedPapers result × (result.decoded.file.now ≡ file.now)
+            × (result.decoded.contents ≡ contents) × (result.query.now ≡ numbers query.now) }
+    {
+        let counts = prepare(
+            file,
+            contents,
+            places,
+            dual,
+            query,
+            &mut self.rules,
+            &mut self.rule_visits,
+            &mut self.entries,
+            &mut self.entry_visits,
+            &mut self.asked,
+        );
+        AskedFile {
+            decoded: DecodedFile {
+                file,
+                contents,
+                rules: &self.rules,
+                rule_visits: &self.rule_visits[..counts.folds],
+                entries: &self.entries,
+                entry_visits: &self.entry_visits[..counts.judged],
+            },
+            query: &self.asked[..counts.asked],
+        }
+    }
+}
+
+// A decoded file, and the numbers of the query that is asked of it.
+#[derive(Clone, Copy)]
+pub struct AskedFile<'a> {
+    pub decoded: DecodedFile<'a>,
+    pub query: &'a [u16],
+}
+
+impl AskedFile<'_> {
+    pub fn judge_lanes(&self, base: u32) -> Verdicts
+        requires { DecodedPapers self.now }
+        ensures { VerdictLanes (program_in self.now.decoded.file.now) self.now.query.now base result.explained result.rounds }
+    {
+        let mut held = Words::CLEAR;
+        let rounds = self.decoded.settle_words(base, &mut held);
+        let explained = explained_lanes(self.query, self.decoded.contents.atoms, &held.t, &held.f);
+        Verdicts { explained, rounds }
+    }
 }

@@ -1,0 +1,9 @@
+-- `verdicts::Room::decode` meets its contract.
+use mathlib.Core.Path.{refl}
+use Rattle.verdicts.proofs.PapersDecoded.{query_part, papers_decoded}
+use Rattle.verdicts.proofs.Room.decode.Goals as goal
+
+pub returns : goal.returns
+returns c =
+    let m = c.prepare-counts.ensures in
+    (papers_decoded m _ c.requires refl refl refl refl refl refl, refl, refl, query_part m)
