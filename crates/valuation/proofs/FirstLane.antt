@@ -2,24 +2,23 @@
 -- Assumes nothing.
 use mathlib.Core.Path.{◌≡◌, sym, ap, ◌∙◌}
 use mathlib.Core.List.{List}
-use Prim.Native.Nat.{ℕ, ◌+◌, ◌*◌, ◌%◌}
+use Prim.Native.Nat.{ℕ, ◌+◌, ◌*◌}
 use native.Mathlib.Omega.{arith}
-use lib.Dec.{eqb}
 use lib.ListN.{get_or}
 use Rattle.papers.specs.Program.{Program, Query}
 use Rattle.dual.specs.Bytes.{filled}
 use Rattle.model.specs.Model.{rounds, value_bytes, model_bytes, explains}
-use Rattle.lanes.specs.Lanes.{lane}
+use Rattle.lanes.specs.Lanes.{lane_bit, lane}
 use Rattle.settling.specs.RoundLanes.{SettledLanes}
 use Rattle.verdicts.specs.VerdictLanes.{VerdictLanes}
-use Rattle.valuation.proofs.ValueLaws.{first_lane, first_bytes}
+use Rattle.valuation.proofs.ValueLaws.{first_bytes}
 
 module _ (p : Program) (q : Query) (s w : ℕ) (counts : List ℕ) (v : VerdictLanes p q s w counts) where
   here : s + 0 ≡ s
   here = omega arith
 
-  pub first_explained : eqb (w % 2) 1 ≡ explains p q s
-  first_explained = first_lane w ∙ v.explained 0 (omega arith) ∙ ap (explains p q) here
+  pub first_explained : lane_bit 0 w ≡ explains p q s
+  first_explained = v.explained 0 (omega arith) ∙ ap (explains p q) here
 
   pub first_counted : get_or counts 0 0 ≡ rounds p s
   first_counted = v.counted 0 (omega arith) ∙ ap (rounds p) here

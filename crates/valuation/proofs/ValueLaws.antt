@@ -1,13 +1,11 @@
 -- The bytes of the first lane, and that they are the model's.
 -- Assumes nothing.
-use mathlib.Core.Path.{◌≡◌, refl, sym, ap, ap₂, ◌∙◌}
-use mathlib.Core.List.{List}
-use Prim.Native.Nat.{ℕ, ◌+◌, ◌-◌, ◌/◌, ◌%◌, ◌≤◌, ◌<◌}
-use native.Mathlib.Decide.{dec_lt, ℕ_discrete}
+use mathlib.Core.Path.{◌≡◌, sym, ap, ap₂, ◌∙◌}
+use mathlib.Core.List.{List, ◌++◌}
+use Prim.Native.Nat.{ℕ, ◌+◌, ◌<◌}
 use native.Mathlib.Omega.{arith}
-use lib.Dec.{eqb}
-use lib.ListN.{length, get_or, drop, set, length-set, length-append, length-drop, get_or-append}
-use lib.Seq.{ext_get_or, get_or-append-add, get_or-drop, get_or-set_same, get_or-set_other}
+use lib.ListN.{length, get_or, drop}
+use lib.Seq.{ext_get_or}
 use Rattle.literals.specs.Numbering.{judged}
 use Rattle.papers.specs.Program.{Program}
 use Rattle.dual.specs.Bytes.{filled}
@@ -17,63 +15,29 @@ use Rattle.settling.specs.RoundLanes.{SettledLanes}
 use Rattle.lanes.proofs.LaneLaws.{sized, has_lane}
 use Rattle.model.proofs.ByteLaws.{bytes_length, bytes_at}
 
--- ---- the bytes
+-- The bytes of the first lane, of the first n literals.
+module _ (trues falses : List ℕ) (n : ℕ) where
+  abbrev values : List ℕ
+  values = value_bytes (lane n 0 trues) (lane n 0 falses)
 
--- The first lane is the lowest bit.
-pub first_lane : (w : ℕ) → eqb (w % 2) 1 ≡ lane_bit 0 w
-unfolding lane_bit
-first_lane w = let e : w % 2 ≡ w / 1 % 2 = omega arith in ap (λ (x : ℕ). eqb x 1) e
+  long : length values ≡ n
+  long = bytes_length n (lane n 0 trues) (lane n 0 falses) (sized n 0 trues) (sized n 0 falses)
 
--- The first o bytes are those of the first lane, the others as they were.
-pub record Valued (trues falses before : List ℕ) (o : ℕ) (after : List ℕ) : Type 0 where
-  pub long : length after ≡ length before
-  pub at : (j : ℕ) → j < o → get_or after j 0 ≡ value_byte (lane_bit 0 (get_or trues j 0)) (lane_bit 0 (get_or falses j 0))
-  pub stays : (j : ℕ) → o ≤ j → get_or after j 0 ≡ get_or before j 0
+  -- Each is the byte of its literal,
+  pub valued : (after : List ℕ) → length after ≡ n
+      → ((j : ℕ) → j < n → get_or after j 0 ≡ value_byte (lane_bit 0 (get_or trues j 0)) (lane_bit 0 (get_or falses j 0))) → after ≡ values
+  valued after size at = ext_get_or 0 after values (size ∙ sym long) (λ j k.
+      let l : j < n = omega (arith, k) in
+      at j l
+      ∙ sym
+      (bytes_at (lane n 0 trues) (lane n 0 falses) j (let z = sized n 0 trues in omega arith) (let z = sized n 0 falses in omega arith)
+      ∙ ap₂ value_byte (has_lane n 0 j trues l) (has_lane n 0 j falses l)))
 
-module _ (trues falses before : List ℕ) where
-  pub valued_none : Valued trues falses before 0 before
-  valued_none = record { long = refl; at = λ j h. absurd (omega arith); stays = λ j h. refl }
-
-  pub valued_more : (o : ℕ) (after : List ℕ) (byte : ℕ) → o < length before → Valued trues falses before o after
-      → byte ≡ value_byte (eqb (get_or trues o 0 % 2) 1) (eqb (get_or falses o 0 % 2) 1) → Valued trues falses before (o + 1) (set after o byte)
-  valued_more o after byte h v e =
-      let l = v.long in
-      record {
-        long = length-set after o byte ∙ l;
-        at = λ j k. elim (ℕ_discrete j o) [
-          | yes q ↦
-              rw q
-              (get_or-set_same after o byte 0 (omega arith) ∙ e ∙ ap₂ value_byte (first_lane (get_or trues o 0)) (first_lane (get_or falses o 0)))
-          | no q ↦ get_or-set_other after o j byte 0 q ∙ v.at j (omega arith)
-        ];
-        stays = λ j k. get_or-set_other after o j byte 0 (λ z. absurd (omega arith)) ∙ v.stays j (omega arith);
-      }
-
-  pub valued_all : (n : ℕ) (after : List ℕ) → n ≤ length before → Valued trues falses before n after
-      → after ≡ filled (value_bytes (lane n 0 trues) (lane n 0 falses)) before
-  valued_all n after h v =
-      let size = bytes_length n (lane n 0 trues) (lane n 0 falses) (sized n 0 trues) (sized n 0 falses) in
-      let rest = length-drop (length bytes) before in
-      let long : length after ≡ length (filled bytes before) = v.long ∙ sym (length-append bytes (drop (length bytes) before) ∙ omega arith) in
-      ext_get_or 0 after (filled bytes before) long (λ j k. elim (dec_lt j n) [
-        | yes l ↦
-            v.at j l
-            ∙ sym
-            (get_or-append bytes (drop (length bytes) before) 0 j (omega arith)
-            ∙ bytes_at (lane n 0 trues) (lane n 0 falses) j (let z = sized n 0 trues in omega arith) (let z = sized n 0 falses in omega arith)
-            ∙ ap₂ value_byte (has_lane n 0 j trues l) (has_lane n 0 j falses l))
-        | no l ↦
-            let e : j ≡ length bytes + (j - length bytes) = omega arith in
-            v.stays j (omega arith)
-            ∙ sym
-            (ap (λ (x : ℕ). get_or (filled bytes before) x 0) e
-            ∙ get_or-append-add bytes (drop (length bytes) before) (j - length bytes) 0
-            ∙ get_or-drop (length bytes) before (j - length bytes) 0
-            ∙ ap (λ (x : ℕ). get_or before x 0) (sym e))
-      ])
-    where
-      bytes : List ℕ
-      bytes = value_bytes (lane n 0 trues) (lane n 0 falses)
+  -- and past them a buffer stays.
+  pub valued_filled : (after before : List ℕ) → length after ≡ n
+      → ((j : ℕ) → j < n → get_or after j 0 ≡ value_byte (lane_bit 0 (get_or trues j 0)) (lane_bit 0 (get_or falses j 0)))
+      → after ++ drop n before ≡ filled values before
+  valued_filled after before size at = rw (valued after size at, long)
 
 module _ (p : Program) (base : ℕ) (trues falses counts : List ℕ) (s : SettledLanes p base trues falses counts) where
   -- The bytes of the first lane are the model's.

@@ -4,13 +4,17 @@ ghost use Rattle.dual.specs.Bytes.{filled};
 ghost use Rattle.model.specs.Model.{value_byte, value_bytes};
 ghost use Rattle.lanes.specs.Lanes.{lane};
 
+use lanes::words::in_lane;
+
+#[tactic(auto, unfolding(model::specs::Model::value_byte))]
 fn value_byte(held: bool, failed: bool) -> u8
     ensures { result ≡ value_byte held failed }
 {
-    if held {
-        if failed { 3 } else { 1 }
-    } else {
-        if failed { 2 } else { 0 }
+    match (held, failed) {
+        (false, false) => 0,
+        (true, false) => 1,
+        (false, true) => 2,
+        (true, true) => 3,
     }
 }
 
@@ -19,11 +23,7 @@ pub(crate) fn write_values(model: &mut [u8], trues: &[u64; 513], falses: &[u64; 
     requires { (count ≤ 513) × (count ≤ length model.old) }
     ensures { model.new ≡ filled (value_bytes (lane count 0 trues.now) (lane count 0 falses.now)) model.old }
 {
-    let mut o: usize = 0;
-    while o < count {
-        let held = trues[o] % 2 == 1;
-        let failed = falses[o] % 2 == 1;
-        model[o] = value_byte(held, failed);
-        o += 1;
+    for (o, byte) in model[..count].iter_mut().enumerate() {
+        *byte = value_byte(in_lane(trues[o], 0), in_lane(falses[o], 0));
     }
 }

@@ -1,54 +1,35 @@
 -- `valuation::judge_decoded` meets its contract.
-use borrow.Author.Rules.{rules}
-use mathlib.Core.Path.{◌≡◌, sym, subst}
-use Prim.Native.Nat.{ℕ, ◌≤◌}
 use native.Mathlib.Omega.{arith}
+use mathlib.Core.Path.{◌∙◌}
 use Rattle.papers.specs.Reading.{program_in}
-use Rattle.papers.proofs.FileFacts.{atoms_are, few_atoms_lem}
-use Rattle.verdicts.specs.VerdictLanes.{ExplainedWord}
-use Rattle.verdicts.proofs.VerdictLaws.{query_listed, verdict_lanes}
+use Rattle.settling.proofs.DecodedLaws.{decoded_atoms, decoded_few, program_few}
+use Rattle.verdicts.proofs.VerdictLaws.{asked_listed, verdict_lanes}
 use Rattle.valuation.proofs.FirstLane.{first_explained, first_counted, first_filled}
 use Rattle.valuation.proofs.judge_decoded.Goals as goal
-use Rattle.valuation.proofs.judge_decoded.Goals.{After-judged-count}
-
--- ---- once the lanes are settled and N is known
-
-module _ (c : After-judged-count) where
-  few : c.args.contents.atoms ≤ 256
-  few = few_atoms_lem c.args.file.now c.args.contents c.requires.0.answer
-
-  same : (program_in c.args.file.now).atoms ≡ c.args.contents.atoms
-  same = atoms_are c.args.file.now c.args.contents c.requires.0.answer
-
-pub settle-settled-requires : goal.settle-settled-requires
-settle-settled-requires c = let q = c.requires.0 in (q.answer, (q.decoded, search rules))
 
 pub write_values-requires : goal.write_values-requires
 write_values-requires c =
-    let n = c.judged-count.ensures in
-    (omega (arith, few (goal.at.write_values-requires c).After-judged-count), omega (arith, same (goal.at.write_values-requires c).After-judged-count, c.requires.1))
+    let file_in = c.requires.0.file_in in
+    (omega (arith, c.judged.ensures, decoded_few file_in), omega (arith, c.judged.ensures, decoded_atoms file_in, c.requires.1))
 
 pub explained_lanes-explained-requires : goal.explained_lanes-explained-requires
-explained_lanes-explained-requires c =
-    (few (goal.at.explained_lanes-explained-requires c).After-judged-count, rw (same (goal.at.explained_lanes-explained-requires c).After-judged-count) at (query_listed (program_in c.args.file.now).atoms c.requires.0.asked))
+explained_lanes-explained-requires c = (decoded_few c.requires.0.file_in, asked_listed c.requires.0)
 
 pub returns : goal.returns
 returns c =
     let a = c.args in
-    let p = program_in a.file.now in
-    let query = a.query.now in
+    let d = a.papers.now in
+    let p = program_in d.decoded.file.now in
+    let file_in = c.requires.0.file_in in
     let s = c.settle-settled in
     let trues = s.result.model.t in
     let falses = s.result.model.f in
     let explained = c.explained_lanes-explained.result in
-    let e = subst (λ (n : ℕ). ExplainedWord n query trues falses explained) (sym (same (goal.at.returns c).After-judged-count)) c.explained_lanes-explained.ensures in
     let v =
-    verdict_lanes p a.scenario trues falses s.result.rounds s.ensures.0 (rw (same (goal.at.returns c).After-judged-count) (few (goal.at.returns c).After-judged-count)) query explained
-    c.requires.0.asked e in
-    let bytes = rw c.judged-count.ensures at c.write_values.ensures in (
-      first_explained p query a.scenario explained s.result.rounds v,
-      (
-        first_counted p query a.scenario explained s.result.rounds v,
-        first_filled p a.scenario a.contents.atoms trues falses s.result.rounds a.model.now _ (same (goal.at.returns c).After-judged-count) s.ensures.0 bytes,
-      ),
+    verdict_lanes p a.scenario trues falses s.result.rounds s.ensures.0 (program_few file_in) d.query.now explained c.requires.0.asked
+    (rw (decoded_atoms file_in) c.explained_lanes-explained.ensures) in (
+      c.in_lane.ensures ∙ first_explained p d.query.now a.scenario explained s.result.rounds v,
+      first_counted p d.query.now a.scenario explained s.result.rounds v,
+      first_filled p a.scenario d.decoded.contents.atoms trues falses s.result.rounds a.model.now _ (decoded_atoms file_in) s.ensures.0
+          (rw c.judged.ensures at c.write_values.ensures),
     )
