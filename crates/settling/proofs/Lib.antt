@@ -1,6 +1,6 @@
 -- Rounds in 64 lanes.
 
--- A decoded file's atoms.
+-- The atoms and the abducibles of a decoded file.
 pub mod DecodedLaws
 -- One round, from its parts.
 mod RoundLaws

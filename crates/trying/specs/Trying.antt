@@ -7,6 +7,7 @@ use Rattle.model.specs.Model.{rounds, explains}
 use Rattle.preparing.specs.Preparing.{PapersStand}
 use Rattle.verdicts.specs.VerdictLanes.{DecodedPapers}
 use Rattle.trying.specs.declared.Report.{Report as CallReport}
+use Rattle.trying.specs.declared.Search.{Search}
 use Rattle.verdicts.specs.declared.Verdicts.{Verdicts}
 use Rattle.held.specs.declared.Masks.{Masks}
 use Rattle.held.specs.declared.SearchRecord.{SearchRecord}
@@ -36,6 +37,10 @@ told_report m x = record { new = record { at = x.new; held = m }; tried = x.trie
 -- The problem of an accepted file and a query.
 abbrev pub problem_in : List ℕ → Query → Problem
 problem_in file query = problem_of (record { program = program_in file; query = query })
+
+-- That of a search over decoded papers, with its held faults.
+abbrev pub problem_held : Search → Problem
+problem_held s = held_problem (problem_in s.papers.decoded.file.now s.papers.query.now) s.held
 
 -- A call that has tried nothing yet.
 abbrev pub untried : Record → Progress
@@ -70,11 +75,10 @@ pub record LanesJudged (P : Problem) (k base : ℕ) (v : Verdicts) : Type 0 wher
   pub cost : (l : ℕ) → l < 64 → get_or v.rounds l 0 ≤ 1026
 
 -- Papers that can be judged, a search within its bounds, and room to count `count` scenarios more.
-pub record Ready (file : List ℕ) (contents : Contents) (rules rule-visits entries entry-visits query : List ℕ) (total count : ℕ) (before : Progress)
-    (list : List ℕ) : Type 0 where
-  pub prepared : DecodedPapers file contents rules rule-visits entries entry-visits query
-  pub scenarios : total ≡ 3 ^ length (program_in file).abducibles
-  pub kept : Kept total before list
+pub record Ready (s : Search) (count : ℕ) (before : Progress) (list : List ℕ) : Type 0 where
+  pub prepared : DecodedPapers s.papers
+  pub scenarios : s.total ≡ 3 ^ length (program_in s.papers.decoded.file.now).abducibles
+  pub kept : Kept s.total before list
   pub room : before.tried + count < 4294967296
 
 -- Papers that can be judged, and a record and a list that pass test 14.
