@@ -44,7 +44,8 @@ module _ (p : Program) (base : ℕ) (trues falses counts : List ℕ) (s : Settle
   pub first_bytes : value_bytes (lane (judged p.atoms) 0 trues) (lane (judged p.atoms) 0 falses) ≡ model_bytes p base
   unfolding model_bytes
   first_bytes =
-      ap₂ value_bytes (s.true_in 0 (omega arith) ∙ ap (λ (x : ℕ). (model p x).trues) here) (s.false_in 0 (omega arith) ∙ ap (λ (x : ℕ). (model p x).falses) here)
+      ap₂ value_bytes (s.true_in 0 (omega arith) ∙ ap (λ (x : ℕ). (model p x).trues) here)
+      (s.false_in 0 (omega arith) ∙ ap (λ (x : ℕ). (model p x).falses) here)
     where
       here : base + 0 ≡ base
       here = omega arith

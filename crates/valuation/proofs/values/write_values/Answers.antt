@@ -7,5 +7,7 @@ use Rattle.valuation.proofs.values.write_values.Goals as goal
 
 pub returns : goal.returns
 returns c =
-    valued_filled c.args.trues.now c.args.falses.now c.args.count c.loop-o.byte-items c.args.model.now (rw c.loop-o.auto.byte-items (omega (arith, length-take {A = ℕ})))
+    let a = c.args in
+    let size = c.loop-o.auto.byte-items in
+    valued_filled a.trues.now a.falses.now a.count c.loop-o.byte-items a.model.now (rw size (omega (arith, length-take {A = ℕ})))
     (λ j h. c.loop-o.invariant j (omega (arith, length-take {A = ℕ})))
