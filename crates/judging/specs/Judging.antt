@@ -1,15 +1,19 @@
 -- Judging: its refusals after those of the papers, what it tells in document 01's numbers, and what the lent buffers then hold.
-use Rattle.std.specs.Prelude.{◌≡◌, Bool, cond, List, ℕ, ◌^◌, ltb, length}
+use Rattle.std.specs.Prelude.{◌≡◌, Bool, cond, List, ℕ, ◌^◌, ltb, length, Ok, Err}
+use Rattle.std.specs.declared.result.Result.{Result}
 use Rattle.literals.specs.Numbering.{judged}
 use Rattle.papers.specs.declared.Bare.{Bare}
 use Rattle.papers.specs.declared.Bare.TheVariants as bare
 use Rattle.papers.specs.Program.{Program}
 use Rattle.papers.specs.Outcome.{Outcome, accepted, refused}
 use Rattle.papers.specs.Reading.{Papers}
-use Rattle.papers.specs.Told.{Told, tells, bare_told, refusal_told}
+use Rattle.papers.specs.Told.{Told, tells, refusal_of, bare_told, refusal_told}
 use Rattle.dual.specs.Bytes.{dual_of, filled}
-use Rattle.judging.specs.declared.Judged.{Judged}
-use Rattle.judging.specs.declared.Judged.TheVariants as answer
+use Rattle.dual_writer.specs.declared.DualError.{DualError}
+use Rattle.dual_writer.specs.declared.DualError.TheVariants as dual
+use Rattle.valuation.specs.declared.Verdict as valuation
+use Rattle.judging.specs.declared.JudgeError.{JudgeError}
+use Rattle.judging.specs.declared.JudgeError.TheVariants as error
 use Rattle.model.specs.Model.{rounds, model_bytes, explains}
 
 -- "Scenario s below 3^k."
@@ -25,12 +29,17 @@ abbrev pub verdict_of : Papers → ℕ → Verdict
 verdict_of q s = record { explains = explains q.program q.query s; rounds = rounds q.program s }
 
 -- What each answer tells.
-unfoldable pub judged_told : Judged → Told Verdict
-judged_told (answer.Verdict e n) = tells (record { explains = e; rounds = n })
-judged_told answer.ShortDual = bare_told bare.ShortDual
-judged_told answer.ShortModel = bare_told bare.ShortModel
-judged_told answer.NoScenario = bare_told bare.NoScenario
-judged_told (answer.Refused r) = refusal_told r
+unfoldable pub judged_told : Result valuation.Verdict JudgeError → Told Verdict
+judged_told (Ok v) = tells (record { explains = v.explains; rounds = v.rounds })
+judged_told (Err error.ShortDual) = bare_told bare.ShortDual
+judged_told (Err error.ShortModel) = bare_told bare.ShortModel
+judged_told (Err error.NoScenario) = bare_told bare.NoScenario
+judged_told (Err (error.Refused r)) = refusal_told (refusal_of r)
+
+-- Where the dual was not written.
+abbrev pub judge_error : DualError → JudgeError
+judge_error dual.Short = error.ShortDual
+judge_error (dual.Refused r) = error.Refused r
 
 -- What stands against judging accepted papers.
 pub data Hindrance : Type 0 where
@@ -70,7 +79,7 @@ model_judged (refused r) s dual model = model
 model_judged (accepted q) s dual model = buffer_by (hindrance q.program s (length dual) (length model)) (model_bytes q.program s) model
 
 -- The answer and the two lent buffers together.
-abbrev pub Judges : Outcome Papers → ℕ → List ℕ → List ℕ → Judged → List ℕ → List ℕ → Type 0
+abbrev pub Judges : Outcome Papers → ℕ → List ℕ → List ℕ → Result valuation.Verdict JudgeError → List ℕ → List ℕ → Type 0
 Judges read s dual model r after valued =
     (judged_told r ≡ judge_told read s (length dual) (length model))
     × ((after ≡ dual_judged read s dual model) × (valued ≡ model_judged read s dual model))

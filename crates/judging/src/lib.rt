@@ -1,60 +1,66 @@
 // Judging one scenario of two papers.
 #![tactic(auto)]
 
+ghost use Rattle.std.specs.Prelude.{◌≡◌};
 ghost use Rattle.papers.specs.Reading.{read_papers};
-ghost use Rattle.judging.specs.Judging.{Judges};
+ghost use Rattle.judging.specs.declared.JudgeError.TheVariants.{Refused};
+ghost use Rattle.judging.specs.Judging.{judge_error, Judges};
 
-use dual_writer::DualWritten;
+use dual_writer::{DualError, write_accepted};
 use model::scenario_count;
-use papers::{PapersRead, Refusal};
+use papers::Refusal;
+pub use valuation::Verdict;
 use valuation::judge_accepted;
 
-// What judging answers: verdict and rounds, or document 01's refusals 11, 12 and 13, or one of the papers'.
-#[derive(Clone, Copy)]
-pub enum Judged {
-    Verdict { explains: bool, rounds: u64 },
+// What refuses judging: document 01's refusals 11, 12 and 13, or one of the papers'.
+#[derive(Clone, Copy, PartialEq, Eq, Debug)]
+pub enum JudgeError {
     ShortDual,
     ShortModel,
     NoScenario,
     Refused(Refusal),
 }
 
-pub fn judge(file: &[u8], sheet: &[u8], scenario: u32, dual: &mut [u8], model: &mut [u8]) -> Judged
+impl From<Refusal> for JudgeError {
+    ghost from_gives = { λ refusal e. e ≡ Refused refusal };
+
+    fn from(refusal: Refusal) -> JudgeError {
+        JudgeError::Refused(refusal)
+    }
+}
+
+impl From<DualError> for JudgeError {
+    ghost from_gives = { λ unwritten e. e ≡ judge_error unwritten };
+
+    fn from(unwritten: DualError) -> JudgeError {
+        match unwritten {
+            DualError::Short => JudgeError::ShortDual,
+            DualError::Refused(refusal) => JudgeError::Refused(refusal),
+        }
+    }
+}
+
+pub fn judge(
+    file: &[u8],
+    sheet: &[u8],
+    scenario: u32,
+    dual: &mut [u8],
+    model: &mut [u8],
+) -> Result<Verdict, JudgeError>
     ensures { Judges (read_papers file.now sheet.now) scenario dual.old model.old
         result dual.new model.new }
 {
-    let read = reading::read_papers(file, sheet);
-    let PapersRead::Accepted(contents, literals) = read else {
-        let PapersRead::Refused(refusal) = read else {
-            return Judged::NoScenario;
-        };
-        return Judged::Refused(refusal);
-    };
+    let (contents, literals) = reading::read_papers(file, sheet)?;
     let room = literals::judged(contents.atoms) <= model.len();
     let listed = scenario < scenario_count(contents.abducibles);
     let places = folds::fold_places(file, contents);
-    let written = dual_writer::write_accepted(file, contents, &places, dual, room & listed);
-    let DualWritten::Length(_) = written else {
-        return Judged::ShortDual;
-    };
+    write_accepted(file, contents, &places, dual, room && listed)?;
     if !room {
-        return Judged::ShortModel;
+        return Err(JudgeError::ShortModel);
     }
     if !listed {
-        return Judged::NoScenario;
+        return Err(JudgeError::NoScenario);
     }
-    let end = 3 + 2 * literals;
-    let verdict = judge_accepted(
-        file,
-        contents,
-        &places,
-        dual,
-        &sheet[3..end],
-        scenario,
-        model,
-    );
-    Judged::Verdict {
-        explains: verdict.explains,
-        rounds: verdict.rounds,
-    }
+    let query = &sheet[3..3 + 2 * literals];
+    Ok(judge_accepted(file, contents, &places, dual, query, scenario, model))
 }
