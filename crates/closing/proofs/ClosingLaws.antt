@@ -20,7 +20,8 @@ use Rattle.model.specs.Sets.{Set, has, full}
 use Rattle.model.specs.LeastSet.{body_holds, supported, Reduct, least}
 use Rattle.lanes.specs.Lanes.{lane_bit, lane}
 use Rattle.lanes.specs.Words.{Literals, total, Laned}
-use Rattle.closing.specs.Closing.{rule_in, visited_rule, rules_in, RulesStand, Judged, Raised, Passed, begun, then, ClosedTrue}
+use Rattle.closing.specs.Closing.{rule_in, visited_rule, rules_in, RuleStands, RulesStand, Judged, Raised, Passed, begun, then, ClosedTrue, left_over}
+use Rattle.closing.specs.Passes.{Passing}
 use Rattle.papers.proofs.TestLaws.{both, left, right, either, either_left, either_right, true_and, false_and, false_or, or_false}
 use Rattle.model.proofs.SetLaws.{Sub, has_within, full_in, sub_refl}
 use Rattle.model.proofs.LeastLaws.{body_mono, least_closed, least_is}
@@ -271,9 +272,16 @@ pub record Going (n : ℕ) (rules : List Rule) (negated before words : List ℕ)
   pub ruled : going ≡ false → (k : ℕ) → k < length rules → (l : ℕ) → l < 64
       → T (body_holds false (lane n l words) (lane n l negated) (get_or rules k no_rule).body) → T (lane_bit l (get_or words (get_or rules k no_rule).head 0))
 
--- It falls with each pass that is not the last: the sum has grown.
-abbrev pub left_over : List ℕ → ℕ
-left_over words = 513 * 18446744073709551616 - total words
+-- A rule by itself leaves less to be done where it changes a word.
+pub rule_goes_on : {rows negated before after : List ℕ} {place : ℕ} {changed : Bool} → RuleStands rows place → Laned before
+    → Raised (rule_in rows place) negated before after changed → Passing left_over before after changed
+rule_goes_on {rows} {before = before} {after = after} {place = place} stands begins one = record {
+  same = raised_same one;
+  less = λ e.
+      let within : (rule_in rows place).head < length before = omega (arith, stands.head, begins.many) in
+      let k = raised_laned one within begins in
+      omega (arith, raised_more one within e, total_le after 18446744073709551615 (λ o. omega (arith, k.fits o)), k.many);
+}
 
 module _ (n : ℕ) (rules : List Rule) (negated before : List ℕ) (j : Judged n rules) (begins : Laned before) where
   pub going_starts : Going n rules negated before before true
@@ -298,11 +306,6 @@ module _ (n : ℕ) (rules : List Rule) (negated before : List ℕ) (j : Judged n
       inside = λ l h s u b. d.inside l h s u (so.inside l h s u b);
       ruled = λ e k m l h t. let q = d.same e in rw q (d.ruled e k m l h (rw q at t));
     }
-
-    pub going_less : changed ≡ true → left_over after < left_over words
-    going_less c =
-        let d = passed in
-        omega (arith, d.more c, total_le after 18446744073709551615 (λ o. omega (arith, d.laned.fits o)), d.laned.many)
 
   going_ends : {words : List ℕ} → Going n rules negated before words false → (l : ℕ) → l < 64
       → lane n l words ≡ least n rules (record { seed = lane n l before; allowed = full n; negated = lane n l negated; undefined = false })

@@ -1,7 +1,7 @@
 -- Dropping what is not backed, one objective literal after the other, in every lane at once: an entry, a pass, passes until one changes nothing.
 -- Assumes nothing.
 use mathlib.Core.Path.{◌≡◌, refl, sym, ap, subst, ◌∙◌}
-use mathlib.Core.Bool.{Bool, true, false, not, ◌||◌, cond, true≢false}
+use mathlib.Core.Bool.{Bool, true, false, not, cond, true≢false}
 use mathlib.Core.List.{List, []}
 use Prim.Native.Nat.{ℕ, ◌+◌, ◌≤◌, ◌<◌}
 use native.Mathlib.Omega.{arith}
@@ -21,10 +21,10 @@ use Rattle.model.specs.Scenarios.{digit_of, false_abducible}
 use Rattle.model.specs.Model.{conjugate_in}
 use Rattle.model.specs.Falsity.{entry_holds, backed}
 use Rattle.lanes.specs.Lanes.{lane_bit, lane}
-use Rattle.closing.specs.FalseWords.{GivenBacked, Dropped, Narrowed, BackedTo, DroppedTo, PartDropped}
+use Rattle.closing.specs.FalseWords.{EntryStands, GivenBacked, Dropped, Narrowed, BackedTo, DroppedTo, PartDropped}
 use Rattle.lanes.specs.Words.{total}
+use Rattle.closing.specs.Passes.{Passing}
 use Rattle.papers.proofs.TestLaws.{both, left, right, or_mono, is_true, true_or, false_or, false_and}
-use Rattle.closing.proofs.ClosingLaws.{or_turned}
 use Rattle.model.proofs.SetLaws.{Sub, has_within, set_ext}
 use Rattle.model.proofs.FalsityLaws.{backed_more}
 use Rattle.lanes.proofs.LaneLaws.{lane_and, lane_or, sized as lane-sized, has_lane, total_set}
@@ -84,6 +84,15 @@ module _ {p : Program} {truth backing : List ℕ} where
   }
 
 -- ---- one entry
+
+-- None of its lanes left: the words stay.
+dropped_still : {p : Program} {o : ℕ} {truth backing before after : List ℕ} {moved : Bool} → Dropped p o truth backing before after moved
+    → moved ≡ false → after ≡ before
+dropped_still {o = o} {backing = backing} {before = before} one t =
+    one.is
+    ∙ ap (λ (v : ℕ). set before o v)
+    (eqb-true (bit_and (get_or before o 0) (bit_or (get_or backing o 0) one.word)) (get_or before o 0) (not-false _ (sym one.told ∙ t)))
+    ∙ set-get_or before o 0
 
 -- Asking only the lanes that have o and in which nothing else backs it leaves the same lanes.
 asked_all : (a b e : Bool) → (a and (b or ((a and not b) and e))) ≡ (a and (b or e))
@@ -149,6 +158,15 @@ module _ {p : Program} {o : ℕ} {truth backing before after : List ℕ} {moved 
             (λ (g : T (entry_holds (dual p) (lane n l truth) t (dual p) o)). entry_more (dual p) (lane n l truth) sub o g)
             (b.each o x)
 
+  -- Some lanes lost it: the sum has fallen.
+  dropped_fewer : moved ≡ true → total after < total before
+  dropped_fewer t =
+      let ne = eqb-false new (get_or before o 0) (not-true _ (sym one.told ∙ t)) in
+      let a = and_le_l (get_or before o 0) (bit_or (get_or backing o 0) one.word) in
+      let s = total_set before o new inside in
+      let f : new < get_or before o 0 = omega (arith, ne) in
+      rw one.is (omega arith)
+
   pub dropped_narrows : {visited : ℕ → ℕ} → visited 0 ≡ o → Narrowed visited 1 p truth backing before after
   dropped_narrows {visited} e = record {
     long = ap length one.is ∙ length-set before o new ∙ long;
@@ -201,9 +219,6 @@ module _ (p : Program) (truth backing before : List ℕ) (visited : ℕ → ℕ)
   module _ (i : ℕ) (after : List ℕ) (changed : Bool) (d : DroppedTo visited i p truth backing before after changed)
       (valid : Valid p) (within : visited i < judged p.atoms) (more : List ℕ) (moved : Bool)
       (one : Dropped p (visited i) truth backing after more moved) where
-    abbrev newer : ℕ
-    newer = new valid within d.narrowed.long one
-
     narrows : Narrowed visited (i + 1) p truth backing before more
     narrows =
         narrowed_then d.narrowed (dropped_narrows valid within d.narrowed.long one {visited = λ j. visited i} refl) (omega arith)
@@ -221,13 +236,7 @@ module _ (p : Program) (truth backing before : List ℕ) (visited : ℕ → ℕ)
       narrowed = narrows;
       same = λ q. absurd (true≢false q);
       backed = λ q. absurd (true≢false q);
-      fewer = λ q.
-          let ne = eqb-false newer (get_or after (visited i) 0) (not-true _ (sym one.told ∙ t)) in
-          let a = and_le_l (get_or after (visited i) 0) (bit_or (get_or backing (visited i) 0) one.word) in
-          let s = total_set after (visited i) newer (inside valid within d.narrowed.long one) in
-          let m = at_most in
-          let f : newer < get_or after (visited i) 0 = omega (arith, ne) in
-          rw one.is (omega arith);
+      fewer = λ q. let m = at_most in omega (arith, dropped_fewer valid within d.narrowed.long one t);
     }
 
     -- or none did.
@@ -245,10 +254,7 @@ module _ (p : Program) (truth backing before : List ℕ) (visited : ℕ → ℕ)
       fewer = λ q. rw still (d.fewer q);
     } where
       still : more ≡ after
-      still =
-          one.is
-          ∙ ap (λ (v : ℕ). set after (visited i) v) (eqb-true newer (get_or after (visited i) 0) (not-false _ (sym one.told ∙ t)))
-          ∙ set-get_or after (visited i) 0
+      still = dropped_still one t
 
       backs : changed ≡ false → (l : ℕ) → l < 64 → T (lane_bit l (get_or before (visited i) 0))
           → T (lane_bit l (get_or backing (visited i) 0)
@@ -257,11 +263,16 @@ module _ (p : Program) (truth backing before : List ℕ) (visited : ℕ → ℕ)
           let e = still ∙ d.same q in
           rw e at (left_backed valid within d.narrowed.long one l h (rw e x))
 
-    pub dropped_then : DroppedTo visited (i + 1) p truth backing before more (changed || moved)
+    pub dropped_then : DroppedTo visited (i + 1) p truth backing before more (moved or changed)
     dropped_then = go moved refl where
-      go : (m : Bool) → moved ≡ m → DroppedTo visited (i + 1) p truth backing before more (changed || moved)
-      go true e = rw (or_turned changed moved, e, true_or changed) (dropped_less e)
-      go false e = rw (or_turned changed moved, e, false_or changed) (dropped_same e)
+      go : (m : Bool) → moved ≡ m → DroppedTo visited (i + 1) p truth backing before more (moved or changed)
+      go true e = rw (e, true_or changed) (dropped_less e)
+      go false e = rw (e, false_or changed) (dropped_same e)
+
+-- An entry by itself leaves less to be done where it changes a word.
+pub entry_goes_on : {p : Program} {rows truth backing before after : List ℕ} {place : ℕ} {moved : Bool} → EntryStands p rows place
+    → length before ≡ 513 → Dropped p (get_or rows place 0) truth backing before after moved → Passing total before after moved
+entry_goes_on stands long one = record { same = dropped_still one; less = dropped_fewer stands.valid stands.within long one }
 
 -- ---- passes until one changes nothing
 

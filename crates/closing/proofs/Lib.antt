@@ -1,9 +1,13 @@
+-- Passes over rows.
+mod PassLaws
 -- ---- T in 64 lanes
 
 -- A rule, a pass over the rules, passes until one changes nothing.
 pub mod ClosingLaws
 -- The same part by part.
 mod TrueParts
+-- What settling the rules comes to.
+mod TrueSettled
 -- Rules in another order have the same least sets.
 pub mod RulesVisited
 -- ---- F in 64 lanes
@@ -17,5 +21,7 @@ mod EntriesVisited
 mod DroppedLaws
 -- The same part by part.
 mod FalseParts
+-- What settling the entries comes to.
+mod FalseSettled
 -- When every part is closed, the greatest set is left.
 pub mod ClosingFalse

@@ -1,6 +1,6 @@
 -- Closing sets of 64 lanes under rules that stand as rows of numbers: a rule, a pass over the rules, and passes until one changes nothing.
 -- `negated` are the words of the g whose not(g) hold.
-use Rattle.std.specs.Prelude.{◌≡◌, Bool, false, not, List, map, ℕ, ◌+◌, ◌≤◌, ◌<◌, eqb, length, get_or, take, drop, set}
+use Rattle.std.specs.Prelude.{◌≡◌, Bool, false, not, List, map, ℕ, ◌+◌, ◌-◌, ◌*◌, ◌≤◌, ◌<◌, eqb, length, get_or, take, drop, set}
 use Rattle.std.specs.Int.Bits.{bit_or}
 use Rattle.papers.specs.Program.{Rule, no_rule}
 use Rattle.parts.specs.Parts.{place_of}
@@ -8,7 +8,7 @@ use Rattle.papers.specs.Tests.{◌or◌}
 use Rattle.model.specs.Sets.{full}
 use Rattle.model.specs.LeastSet.{least}
 use Rattle.lanes.specs.Lanes.{lane, KeptFrom}
-use Rattle.lanes.specs.Words.{OtherLanes, Literals, BodyWord, Laned}
+use Rattle.lanes.specs.Words.{OtherLanes, Literals, BodyWord, Laned, total}
 
 -- ---- rules as rows
 
@@ -64,3 +64,7 @@ pub record ClosedTrue (rules : List Rule) (negated before after : List ℕ) : Ty
       → lane n l after ≡ least n rules (record { seed = lane n l before; allowed = full n; negated = lane n l negated; undefined = false })
   pub beyond : (n : ℕ) → Judged n rules → KeptFrom n before after
   pub laned : Laned after
+
+-- It falls with each rule that changes a word: the sum has grown.
+abbrev pub left_over : List ℕ → ℕ
+left_over words = 513 * 18446744073709551616 - total words

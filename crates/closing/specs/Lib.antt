@@ -4,3 +4,5 @@
 pub mod Closing
 -- F by the entries of a dual.
 pub mod FalseWords
+-- Passes over rows.
+pub mod Passes

@@ -1,15 +1,14 @@
 // Falsity from the entries of the dual, in sixty-four scenarios at once: "F(j+1) is the greatest set with each o in it backed".
 // Bit l of word o says whether o is in the set of lane l.
+ghost use Rattle.std.specs.Prelude.{get_or};
 ghost use Rattle.papers.specs.Reading.{program_in};
-ghost use Rattle.lanes.specs.Words.{Literals};
-ghost use Rattle.parts.specs.Parts.{head_at};
-ghost use Rattle.closing.specs.FalseWords.{EntryStands, EntriesVisited, EntriesStand, SomeWord, EntryWord, Dropped, DroppedTo, PartDropped, FalseWords};
-ghost use Rattle.std.specs.Prelude.{length, get_or, ◌≡◌};
+ghost use Rattle.lanes.specs.Words.{Literals, total};
+ghost use Rattle.closing.specs.FalseWords.{EntryStands, EntriesStand, SomeWord, EntryWord, Dropped, FalseWords};
 
+use crate::passes::{Rows, settle};
 use decoded::{number_in, objective_in};
-use lanes::words::word_of;
+use lanes::words::{other_lanes, word_of};
 use literals::bodies::body_literal;
-use parts::{part_end, place_of};
 use sets::fill_words;
 
 // The lanes in which one of a clause's literals holds.
@@ -51,65 +50,34 @@ fn entry_word(
     word
 }
 
-// The objective literal of the entry at a place leaves the lanes in which nothing backs it. Says whether it left one.
-fn drop_entry(
-    file: &[u8],
-    rows: &[u16],
-    place: usize,
-    truth: &[u64; 513],
-    backing: &[u64; 513],
-    falses: &mut [u64; 513],
-) -> bool
-    requires { EntryStands (program_in file.now) rows.now place }
-    ensures { Dropped (program_in file.now) (get_or rows.now place 0) truth.now backing.now
-        falses.old falses.new result }
-{
-    let o = objective_in(rows, place).0;
-    let old = falses[o];
-    let given = backing[o];
-    let new = old & (given | entry_word(file, rows, place, truth, falses, old & !given));
-    falses[o] = new;
-    new != old
+// Entries as rows, the words of T, and what backs besides them.
+#[derive(Clone, Copy)]
+struct Entries<'a> {
+    file: &'a [u8],
+    rows: &'a [u16],
+    truth: &'a [u64; 513],
+    backing: &'a [u64; 513],
 }
 
-// One pass over the entries. Says whether a lane was left.
-fn drop_pass(
-    file: &[u8],
-    rows: &[u16],
-    visits: &[u16],
-    truth: &[u64; 513],
-    backing: &[u64; 513],
-    falses: &mut [u64; 513],
-) -> bool
-    requires { EntriesVisited (program_in file.now) rows.now visits.now × (length falses.old ≡ 513) }
-    ensures { DroppedTo (head_at rows.now visits.now) (length visits.now) (program_in file.now)
-        truth.now backing.now falses.old falses.new result }
-{
-    let mut changed = false;
-    for visit in visits {
-        changed |= drop_entry(file, rows, place_of(*visit), truth, backing, falses);
-    }
-    changed
-}
+impl<'a> Rows for Entries<'a> {
+    ghost Stands = { λ entries place. EntryStands (program_in entries.file.now) entries.rows.now place };
 
-// The entries of some visits: passes until one changes nothing. A single entry needs one.
-fn drop_part(
-    file: &[u8],
-    rows: &[u16],
-    visits: &[u16],
-    truth: &[u64; 513],
-    backing: &[u64; 513],
-    falses: &mut [u64; 513],
-)
-    requires { EntriesVisited (program_in file.now) rows.now visits.now × (length falses.old ≡ 513) }
-    ensures { PartDropped (head_at rows.now visits.now) (length visits.now) (program_in file.now)
-        truth.now backing.now falses.old falses.new }
-{
-    if let [visit] = visits {
-        drop_entry(file, rows, place_of(*visit), truth, backing, falses);
-        return;
+    ghost Puts = { λ entries place before after changed.
+        Dropped (program_in entries.file.now) (get_or entries.rows.now place 0) entries.truth.now entries.backing.now before after changed };
+
+    ghost left_over = { total };
+
+    // The objective literal leaves the lanes in which nothing backs it.
+    fn put(&self, place: usize, falses: &mut [u64; 513]) -> bool {
+        let o = objective_in(self.rows, place).0;
+        let old = falses[o];
+        let given = self.backing[o];
+        let lanes = old & other_lanes(given);
+        let word = entry_word(self.file, self.rows, place, self.truth, falses, lanes);
+        let new = old & (given | word);
+        falses[o] = new;
+        new != old
     }
-    while drop_pass(file, rows, visits, truth, backing, falses) {}
 }
 
 // The greatest set, in each lane: from all judged literals, part by part.
@@ -125,10 +93,11 @@ pub fn close_false(
     ensures { FalseWords (program_in file.now) truth.now backing.now falses.old falses.new }
 {
     fill_words(falses, visits.len(), u64::MAX);
-    let mut start = 0;
-    while start < visits.len() {
-        let end = part_end(visits, start);
-        drop_part(file, rows, &visits[start..end], truth, backing, falses);
-        start = end;
-    }
+    let entries = Entries {
+        file,
+        rows,
+        truth,
+        backing,
+    };
+    settle(&entries, visits, falses);
 }

@@ -2,4 +2,5 @@
 #![tactic(auto)]
 
 pub mod falsity;
+mod passes;
 pub mod truth;

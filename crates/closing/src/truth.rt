@@ -1,49 +1,36 @@
-// The true set, in 64 scenarios at once: part by part, each by passes over its rules until one changes nothing.
+// The true set, in 64 scenarios at once: T is closed under the rules of the file.
 ghost use Rattle.std.specs.Prelude.{length};
 ghost use Rattle.parts.specs.Parts.{Parted};
-ghost use Rattle.closing.specs.Closing.{rule_in, rules_in, RuleStands, RulesStand, Raised, Passed, ClosedTrue};
+ghost use Rattle.closing.specs.Closing.{rule_in, RuleStands, RulesStand, rules_in, left_over, Raised, ClosedTrue};
 
+use crate::passes::{Rows, settle};
 use decoded::{number_in, objective_in};
-use lanes::words::body_word;
-use parts::{part_end, place_of};
+use lanes::words::{body_word, other_lanes};
 
-// The rule whose row stands at a place, and whether it changed its head's word.
-fn close_rule(rows: &[u16], place: usize, truth: &mut [u64; 513], falses: &[u64; 513]) -> bool
-    requires { RuleStands rows.now place }
-    ensures { Raised (rule_in rows.now place) falses.now truth.old truth.new result }
-{
-    let head = objective_in(rows, place).0;
-    let start = place + 2;
-    let end = start + number_in(rows, place + 1);
-    let old = truth[head];
-    let new = old | body_word(&rows[start..end], truth, falses, !old);
-    truth[head] = new;
-    new != old
+// Rules as rows, and the words of the g whose not(g) hold.
+#[derive(Clone, Copy)]
+struct Rules<'a> {
+    rows: &'a [u16],
+    falses: &'a [u64; 513],
 }
 
-// Each rule once, and whether one of them changed a word.
-fn close_pass(rows: &[u16], visits: &[u16], truth: &mut [u64; 513], falses: &[u64; 513]) -> bool
-    requires { RulesStand rows.now visits.now }
-    ensures { Passed (rules_in rows.now visits.now) falses.now truth.old
-        (length visits.now) truth.new result }
-{
-    let mut changed = false;
-    for visit in visits {
-        changed |= close_rule(rows, place_of(*visit), truth, falses);
-    }
-    changed
-}
+impl<'a> Rows for Rules<'a> {
+    ghost Stands = { λ rules place. RuleStands rules.rows.now place };
 
-// The true set closed under the rules of some visits. A single rule is closed by one.
-fn close_part(rows: &[u16], visits: &[u16], truth: &mut [u64; 513], falses: &[u64; 513])
-    requires { RulesStand rows.now visits.now }
-    ensures { ClosedTrue (rules_in rows.now visits.now) falses.now truth.old truth.new }
-{
-    if let [visit] = visits {
-        close_rule(rows, place_of(*visit), truth, falses);
-        return;
+    ghost Puts = { λ rules place before after changed. Raised (rule_in rules.rows.now place) rules.falses.now before after changed };
+
+    ghost left_over = { left_over };
+
+    // The head comes in where the body holds.
+    fn put(&self, place: usize, truth: &mut [u64; 513]) -> bool {
+        let head = objective_in(self.rows, place).0;
+        let start = place + 2;
+        let end = start + number_in(self.rows, place + 1);
+        let old = truth[head];
+        let new = old | body_word(&self.rows[start..end], truth, self.falses, other_lanes(old));
+        truth[head] = new;
+        new != old
     }
-    while close_pass(rows, visits, truth, falses) {}
 }
 
 // Part by part: no rule up to the end of one asks for a head that comes after it.
@@ -51,10 +38,5 @@ pub fn close_true(rows: &[u16], visits: &[u16], truth: &mut [u64; 513], falses: 
     requires { RulesStand rows.now visits.now × Parted 0 (length visits.now) rows.now visits.now }
     ensures { ClosedTrue (rules_in rows.now visits.now) falses.now truth.old truth.new }
 {
-    let mut start = 0;
-    while start < visits.len() {
-        let end = part_end(visits, start);
-        close_part(rows, &visits[start..end], truth, falses);
-        start = end;
-    }
+    settle(&Rules { rows, falses }, visits, truth);
 }
