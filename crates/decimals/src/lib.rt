@@ -47,7 +47,7 @@ impl<'a> Printer<'a> {
         }
     }
 
-    // A number in decimal, without leading zeros.
+    // A number in decimal, without leading zeros. By hand: by its contract a `write!` may fail, and nothing is known of the buffer then.
     pub fn put_number(&mut self, n: u64)
         requires { self.old.at < 2 ^ 62 }
         ensures printed { Printed (decimal n) self.old self.new }

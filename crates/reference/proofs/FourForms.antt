@@ -4,7 +4,7 @@ use mathlib.Core.Path.{◌≡◌, refl}
 use mathlib.Core.List.{[], ◌∷◌, map}
 use Rattle.literals.specs.declared.Atom.{Atom}
 use Rattle.literals.specs.declared.forms.Form.TheVariants as form
-use Rattle.literals.specs.declared.forms.FormOf.TheVariants.{Is, Nothing}
+use Rattle.std.specs.Prelude.{Some, None}
 use Rattle.literals.specs.Section21.{conj_e}
 use Rattle.literals.specs.Numbering.{literal_form, explicit_conjugate, default_conjugate}
 use Rattle.literals.specs.ComputingConjugates.{conjugating}
@@ -23,7 +23,7 @@ unfolding conjugating
 default_of_p1 = refl
 
 -- and which have the explicit conjugates -p1, none, p1 and none.
-pub explicit_of_p1 : map (λ l. conj_e (literal_form l)) (4 ∷ 5 ∷ 6 ∷ 7 ∷ []) ≡ Is (form.NegatedAtom p1) ∷ Nothing ∷ Is (form.Atom p1) ∷ Nothing ∷ []
+pub explicit_of_p1 : map (λ l. conj_e (literal_form l)) (4 ∷ 5 ∷ 6 ∷ 7 ∷ []) ≡ Some (form.NegatedAtom p1) ∷ None ∷ Some (form.Atom p1) ∷ None ∷ []
 unfolding conjugating
 explicit_of_p1 = refl
 

@@ -12,7 +12,7 @@ use Rattle.papers.specs.Encoding.{encode_file, encode_sheet}
 use Rattle.dual.specs.Table.{dual}
 use Rattle.dual.specs.TableEncoding.{encode_dual, read_fields}
 use Rattle.literals.specs.declared.forms.Form.TheVariants as form
-use Rattle.literals.specs.declared.forms.FormOf.TheVariants.{Is, Nothing}
+use Rattle.std.specs.Prelude.{Some, None}
 use Rattle.literals.specs.Section21.{conj_e}
 use Rattle.literals.specs.Numbering.{falsum, literal_form, explicit_conjugate, default_conjugate}
 use Rattle.model.specs.Model.{model, model_bytes, rounds, explains}
@@ -96,7 +96,7 @@ pub record Calls : Type 0 where
   -- Card 2. The literals of atom 1, p1, not p1, -p1 and not -p1: "The default conjugate takes all four, the explicit one only the first two."
   pub forms_of_p1 : map literal_form (4 ∷ 5 ∷ 6 ∷ 7 ∷ []) ≡ form.Atom p1 ∷ form.NotAtom p1 ∷ form.NegatedAtom p1 ∷ form.NotNegatedAtom p1 ∷ []
   pub default_of_p1 : map default_conjugate (4 ∷ 5 ∷ 6 ∷ 7 ∷ []) ≡ 5 ∷ 4 ∷ 7 ∷ 6 ∷ []
-  pub explicit_of_p1 : map (λ l. conj_e (literal_form l)) (4 ∷ 5 ∷ 6 ∷ 7 ∷ []) ≡ Is (form.NegatedAtom p1) ∷ Nothing ∷ Is (form.Atom p1) ∷ Nothing ∷ []
+  pub explicit_of_p1 : map (λ l. conj_e (literal_form l)) (4 ∷ 5 ∷ 6 ∷ 7 ∷ []) ≡ Some (form.NegatedAtom p1) ∷ None ∷ Some (form.Atom p1) ∷ None ∷ []
   pub explicit_numbers : map explicit_conjugate (2 ∷ 3 ∷ []) ≡ 3 ∷ 2 ∷ []
   -- Card 3. "A scenario with any model byte 3 is no explanation": asked for d, for a, for nothing. "The reference call without its integrity rule now
   -- finds nothing."
