@@ -15,6 +15,7 @@ pub fn number_in(row: &[u16], place: usize) -> usize
     usize::from(row[place])
 }
 
+// The two readers below are no plainer as one generic function: each is one line over `number_in`, and would be a trait's instance with a law of its own.
 // An objective literal: a rule's head, or what an entry is of.
 pub fn objective_in(row: &[u16], place: usize) -> Objective
     requires { place < length row.now }

@@ -10,7 +10,9 @@ pub fn put_number(buffer: &mut [u8], at: usize, value: usize)
     requires { (at + 1 < length buffer.old) × (value < 65536) }
     ensures { buffer.new ≡ set (set buffer.old at (value / 256)) (at + 1) (value % 256) }
 {
-    buffer[at..at + 2].copy_from_slice(&(value as u16).to_be_bytes());
+    let [high, low] = (value as u16).to_be_bytes();
+    buffer[at] = high;
+    buffer[at + 1] = low;
 }
 
 // A field's tag, its length and its first number.

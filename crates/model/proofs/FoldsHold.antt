@@ -148,7 +148,8 @@ module _ (p : Program) (v : Valid p) where
   abducible_unsupported undefined set negated o e = free_unsupported p.abducibles undefined set negated o e rules_free
 
 -- A fact supports its head.
-pub fact_supported : (rules : List Rule) (undefined : Bool) (set negated : Set) (o : ℕ) → is_fact rules o ≡ true → supported undefined set negated rules o ≡ true
+pub fact_supported : (rules : List Rule) (undefined : Bool) (set negated : Set) (o : ℕ) → is_fact rules o ≡ true
+    → supported undefined set negated rules o ≡ true
 unfolding is_fact is_empty supported body_holds
 fact_supported [] undefined set negated o e = e
 fact_supported (r ∷ more) undefined set negated o e = go (eqb r.head o) r.body e (fact_supported more undefined set negated o) where

@@ -16,6 +16,7 @@ pub fn number_at(bytes: &[u8], place: usize) -> usize
     usize::from(u16::from_be_bytes([bytes[place], bytes[place + 1]]))
 }
 
+// The four readers below are no plainer as one generic function: each is one line over `number_at`, and would be a trait's instance with a law of its own.
 // An atom, of the abducibles.
 pub fn atom_at(bytes: &[u8], place: usize) -> Atom
     requires { place + 1 < length bytes.now }
