@@ -7,7 +7,7 @@ use crate::{Literal, is_literal_listed};
 
 const UNDEFINED: usize = 0xFFFF;
 
-// "Reading a body literal yields a number or this constant."
+// "Reading a body literal yields a number or this constant." No Option: u is a literal of the body, and none that is missing.
 #[derive(Clone, Copy, PartialEq, Eq, Debug)]
 pub enum BodyLiteral {
     Is(Literal),

@@ -5,7 +5,7 @@
 ghost use Rattle.std.specs.Prelude.{◌≡◌};
 ghost use Rattle.papers.specs.Told.{fault_number, bare_number};
 
-// The tags of a file's fields and of a sheet's.
+// The tags of a file's fields and of a sheet's. Bytes and no enum: any byte may stand where one is due.
 pub mod tags {
     pub const EDITION: u8 = 0x01;
 
