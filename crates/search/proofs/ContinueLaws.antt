@@ -6,17 +6,18 @@ use mathlib.Core.List.{List}
 use Prim.Native.Nat.{ℕ, ◌^◌, ◌<◌, ◌≤◌}
 use borrow.Author.Tests.{lt-ltb, le-ltb}
 use lib.ListN.{length}
+use Rattle.std.specs.Prelude.{Ok, Err}
 use Rattle.papers.specs.declared.Contents.{Contents}
-use Rattle.papers.specs.declared.Refusal.{Refusal}
+use Rattle.papers.specs.declared.Refusal as declared
 use Rattle.papers.specs.Outcome.{Outcome, accepted, refused}
 use Rattle.papers.specs.Reading.{Papers}
-use Rattle.papers.specs.Told.{tells}
+use Rattle.papers.specs.Told.{tells, refusal_of}
 use Rattle.papers.proofs.BothAccepted.{BothTold}
 use Rattle.papers.proofs.FileFacts.{abducibles_are}
 use Rattle.dual.specs.Bytes.{dual_of, filled}
 use Rattle.dual_writer.proofs.BothPapers.{papers_in, scenarios_are}
 use Rattle.trying.specs.declared.Report.{Report}
-use Rattle.search.specs.declared.Continued.TheVariants.{Reported, ShortDual, SpoiltSearch, Refused}
+use Rattle.search.specs.declared.ContinueError.TheVariants.{ShortDual, SpoiltSearch, Refused}
 use Rattle.held.specs.declared.SearchRecord.{SearchRecord}
 use Rattle.held.specs.HeldCalls.{spoilt_search_by, spoilt_search}
 use Rattle.trying.specs.Trying.{problem_of, Continues}
@@ -36,14 +37,15 @@ module _ {file sheet : List ℕ} {contents : Contents} {literals : ℕ} (both : 
 -- ---- the answers
 
 -- 1 to 10.
-pub answers_refused : {read : Outcome Papers} {r : Refusal} → read ≡ refused r → (w : ℕ) (dual : List ℕ) (from : SearchRecord) (list : List ℕ)
-    → Answers read w dual from list (Refused r) dual list
+pub answers_refused : {read : Outcome Papers} (r : declared.Refusal) → read ≡ refused (refusal_of r)
+    → (w : ℕ) (dual : List ℕ) (from : SearchRecord) (list : List ℕ) → Answers read w dual from list (Err (Refused r)) dual list
 unfolding continued_told continue_told
-answers_refused e w dual from list = (rw e, (rw e, rw e))
+answers_refused r e w dual from list = (rw e, (rw e, rw e))
 
-module _ (q : Papers) {read : Outcome Papers} (is : read ≡ accepted q) (w : ℕ) (dual : List ℕ) (from : SearchRecord) (list : List ℕ) {after : List ℕ} where
+module _ (q : Papers) {read : Outcome Papers} (is : read ≡ accepted q) (w : ℕ) (dual : List ℕ) (from : SearchRecord) (list : List ℕ)
+    {after : List ℕ} where
   -- 11.
-  pub answers_short : length dual < length (dual_of q.program) → after ≡ dual → Answers read w dual from list ShortDual after list
+  pub answers_short : length dual < length (dual_of q.program) → after ≡ dual → Answers read w dual from list (Err ShortDual) after list
   unfolding continued_told continue_told
   answers_short h e =
       let x = lt-ltb (length dual) (length (dual_of q.program)) h in
@@ -52,7 +54,7 @@ module _ (q : Papers) {read : Outcome Papers} (is : read ≡ accepted q) (w : �
 
   module _ (fits : length (dual_of q.program) ≤ length dual) where
     -- 14.
-    pub answers_spoilt : spoilt_search (problem_of q) from list ≡ true → after ≡ dual → Answers read w dual from list SpoiltSearch after list
+    pub answers_spoilt : spoilt_search (problem_of q) from list ≡ true → after ≡ dual → Answers read w dual from list (Err SpoiltSearch) after list
     unfolding continued_told continue_told
     answers_spoilt s e =
         let x = le-ltb (length dual) (length (dual_of q.program)) fits in
@@ -61,7 +63,7 @@ module _ (q : Papers) {read : Outcome Papers} (is : read ≡ accepted q) (w : �
 
     -- A report.
     pub answers_report : spoilt_search (problem_of q) from list ≡ false → after ≡ filled (dual_of q.program) dual → {told : Report} {left : List ℕ}
-        → Continues (problem_of q) w from list told left → Answers read w dual from list (Reported told) after left
+        → Continues (problem_of q) w from list told left → Answers read w dual from list (Ok told) after left
     unfolding continued_told continue_told
     answers_report s e t =
         let x = le-ltb (length dual) (length (dual_of q.program)) fits in

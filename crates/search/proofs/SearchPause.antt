@@ -5,9 +5,9 @@ use mathlib.Core.Bool.{cond}
 use mathlib.Core.List.{List, [], ◌∷◌, map}
 use Prim.Native.Nat.{ℕ, ◌*◌, ◌≤◌}
 use lib.ListN.{length}
+use Rattle.std.specs.Prelude.{Ok}
 use Rattle.papers.specs.declared.Bare.TheVariants as bare
-use Rattle.papers.specs.declared.Refusal.{Refusal}
-use Rattle.papers.specs.Outcome.{Outcome, accepted, refused}
+use Rattle.papers.specs.Outcome.{Refusal, Outcome, accepted, refused}
 use Rattle.papers.specs.Reading.{Papers, read_file, read_papers}
 use Rattle.papers.specs.Told.{tells, bare_number, bare_told, refusal_told, number_told}
 use Rattle.papers.proofs.BothAccepted.{papers_file}
@@ -15,7 +15,6 @@ use Rattle.dual.specs.Bytes.{dual_of, filled}
 use Rattle.model.proofs.Rounds.{rounds_le}
 use Rattle.literals.specs.Numbering.{judged}
 use Rattle.held.specs.declared.Masks.{Masks}
-use Rattle.held.specs.declared.MasksTested.TheVariants.{Passed}
 use Rattle.held.specs.declared.SearchRecord.{SearchRecord}
 use Rattle.held.specs.Masks.{masks_tested}
 use Rattle.held.specs.HeldProblem.{held_problem}
@@ -68,7 +67,7 @@ dual_back c (report x) bytes buffer e = rw (sym e)
 -- ---- many calls
 
 module _ (file sheet : List ℕ) (q : Papers) (read : read_papers file sheet ≡ accepted q) (m : Masks)
-    (passed : masks_tested (length q.program.abducibles) m ≡ Passed) where
+    (passed : masks_tested (length q.program.abducibles) m ≡ Ok tt) where
   -- The problem of the search.
   abbrev searched : Problem
   searched = held_problem (problem_of q) m

@@ -2,8 +2,7 @@
 use Rattle.std.specs.Prelude.{◌≡◌, cond, List, [], ◌∷◌, map, ℕ, ◌*◌, ◌≤◌, length}
 use Rattle.literals.specs.Numbering.{judged}
 use Rattle.papers.specs.declared.Bare.TheVariants as bare
-use Rattle.papers.specs.declared.Refusal.{Refusal}
-use Rattle.papers.specs.Outcome.{Outcome, accepted, refused}
+use Rattle.papers.specs.Outcome.{Refusal, Outcome, accepted, refused}
 use Rattle.papers.specs.Reading.{Papers, read_papers}
 use Rattle.papers.specs.Told.{Told, tells, refused_by, refused_at, bare_number, number_told, refusal_told}
 use Rattle.dual.specs.Bytes.{dual_of, filled}

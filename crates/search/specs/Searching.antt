@@ -1,14 +1,16 @@
 -- Continuing: its refusals after those of the papers, what it tells in document 01's numbers, and what the lent buffer and the lent list
 -- then hold.
-use Rattle.std.specs.Prelude.{◌≡◌, cond, List, ℕ, ltb, length}
+use Rattle.std.specs.Prelude.{◌≡◌, cond, Result, Ok, Err, List, ℕ, ltb, length}
 use Rattle.papers.specs.declared.Bare.TheVariants as bare
 use Rattle.papers.specs.Outcome.{Outcome, accepted, refused}
 use Rattle.papers.specs.Reading.{Papers}
-use Rattle.papers.specs.Told.{Told, tells, refused_by, refused_at, bare_told, refusal_told}
+use Rattle.papers.specs.Told.{Told, tells, refused_by, refused_at, refusal_of, bare_told, refusal_told}
 use Rattle.dual.specs.Bytes.{dual_of, filled}
 use Rattle.trying.specs.declared.Report.{Report as CallReport}
-use Rattle.search.specs.declared.Continued.{Continued}
-use Rattle.search.specs.declared.Continued.TheVariants.{Reported, ShortDual, SpoiltSearch, Refused}
+use Rattle.dual_writer.specs.declared.DualError.{DualError}
+use Rattle.dual_writer.specs.declared.DualError.TheVariants as writing
+use Rattle.search.specs.declared.ContinueError.{ContinueError}
+use Rattle.search.specs.declared.ContinueError.TheVariants.{ShortDual, SpoiltSearch, Refused}
 use Rattle.steps.specs.Calls.{Call, Answer, refusal, report, list_after}
 use Rattle.held.specs.declared.Masks.{Masks}
 use Rattle.held.specs.declared.SearchRecord.{SearchRecord}
@@ -24,11 +26,16 @@ abbrev pub answer_of : Papers → ℕ → ℕ → SearchRecord → List ℕ → 
 answer_of q allowance room from list = held_answer (problem_of q) (call_of q allowance room) from list
 
 -- What each answer tells.
-unfoldable pub continued_told : Continued → Told CallReport
-continued_told (Reported x) = tells x
-continued_told ShortDual = bare_told bare.ShortDual
-continued_told SpoiltSearch = bare_told bare.SpoiltSearch
-continued_told (Refused r) = refusal_told r
+unfoldable pub continued_told : Result CallReport ContinueError → Told CallReport
+continued_told (Ok x) = tells x
+continued_told (Err ShortDual) = bare_told bare.ShortDual
+continued_told (Err SpoiltSearch) = bare_told bare.SpoiltSearch
+continued_told (Err (Refused r)) = refusal_told (refusal_of r)
+
+-- The error that one of writing the dual is.
+abbrev pub dual_error : DualError → ContinueError
+dual_error writing.Short = ShortDual
+dual_error (writing.Refused r) = Refused r
 
 -- "Then 11, 12, 13, 14", of which 11 and 14 are continuing's.
 abbrev pub told_by : Call → Masks → Answer → Told CallReport
@@ -55,7 +62,7 @@ list_continued (refused r) allowance room from list = list
 list_continued (accepted q) allowance room from list = list_after list (answer_of q allowance room from list)
 
 -- The answer, the lent buffer and the lent list together.
-abbrev pub Answers : Outcome Papers → ℕ → List ℕ → SearchRecord → List ℕ → Continued → List ℕ → List ℕ → Type 0
+abbrev pub Answers : Outcome Papers → ℕ → List ℕ → SearchRecord → List ℕ → Result CallReport ContinueError → List ℕ → List ℕ → Type 0
 Answers read allowance dual from list r after left =
     (continued_told r ≡ continue_told read allowance (length dual) from list)
     × ((after ≡ dual_continued read allowance dual from list) × (left ≡ list_continued read allowance (length dual) from list))

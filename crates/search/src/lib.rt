@@ -2,24 +2,42 @@
 #![tactic(auto)]
 
 ghost use Rattle.std.specs.Prelude.{◌≡◌};
-ghost use Rattle.papers.specs.declared.PapersRead.{PapersRead};
 ghost use Rattle.papers.specs.Reading.{read_papers};
-ghost use Rattle.papers.specs.Answers.{papers_answer};
-ghost use Rattle.search.specs.Searching.{Answers};
+ghost use Rattle.papers.specs.Told.{tells, read_told, papers_of};
+ghost use Rattle.search.specs.declared.ContinueError.TheVariants.{Refused};
+ghost use Rattle.search.specs.Searching.{Answers, dual_error};
 
-use dual_writer::DualWritten;
+use dual_writer::DualError;
 use held::{SearchRecord, is_spoilt_search};
 use model::scenario_count;
-use papers::{Contents, PapersRead, Refusal};
+use papers::{Contents, Refusal};
 use trying::{Report, search_accepted};
 
-// What continuing answers: its report, or document 01's refusals 11 and 14, or one of the papers'.
-#[derive(Clone, Copy)]
-pub enum Continued {
-    Reported(Report),
+// What refuses a call that continues: document 01's refusals 11 and 14, or one of the papers'.
+#[derive(Clone, Copy, PartialEq, Eq, Debug)]
+pub enum ContinueError {
     ShortDual,
     SpoiltSearch,
     Refused(Refusal),
+}
+
+impl From<Refusal> for ContinueError {
+    ghost from_gives = { λ refusal e. e ≡ Refused refusal };
+
+    fn from(refusal: Refusal) -> ContinueError {
+        ContinueError::Refused(refusal)
+    }
+}
+
+impl From<DualError> for ContinueError {
+    ghost from_gives = { λ error e. e ≡ dual_error error };
+
+    fn from(error: DualError) -> ContinueError {
+        match error {
+            DualError::Short => ContinueError::ShortDual,
+            DualError::Refused(refusal) => ContinueError::Refused(refusal),
+        }
+    }
 }
 
 // Both papers are accepted, the query with so many literals.
@@ -32,23 +50,20 @@ fn continue_accepted(
     list: &mut [u32],
     from: SearchRecord,
     allowance: u32,
-) -> Continued
-    requires { papers_answer (read_papers file.now sheet.now) ≡ PapersRead.Accepted contents literals }
+) -> Result<Report, ContinueError>
+    requires { read_told papers_of (read_papers file.now sheet.now) ≡ tells (contents, literals) }
     ensures { Answers (read_papers file.now sheet.now) allowance dual.old from list.old
         result dual.new list.new }
 {
     let total = scenario_count(contents.abducibles);
     let spoilt = is_spoilt_search(list, from, contents.abducibles, total);
     let places = folds::fold_places(file, contents);
-    let written = dual_writer::write_accepted(file, contents, &places, dual, !spoilt);
-    let DualWritten::Length(_) = written else {
-        return Continued::ShortDual;
-    };
+    dual_writer::write_accepted(file, contents, &places, dual, !spoilt)?;
     if spoilt {
-        return Continued::SpoiltSearch;
+        return Err(ContinueError::SpoiltSearch);
     }
     let end = 3 + 2 * literals;
-    let report = search_accepted(
+    Ok(search_accepted(
         file,
         contents,
         &places,
@@ -58,8 +73,7 @@ fn continue_accepted(
         total,
         from,
         allowance,
-    );
-    Continued::Reported(report)
+    ))
 }
 
 pub fn continue_search(
@@ -69,16 +83,10 @@ pub fn continue_search(
     list: &mut [u32],
     from: SearchRecord,
     allowance: u32,
-) -> Continued
+) -> Result<Report, ContinueError>
     ensures { Answers (read_papers file.now sheet.now) allowance dual.old from list.old
         result dual.new list.new }
 {
-    let read = reading::read_papers(file, sheet);
-    let PapersRead::Accepted(contents, literals) = read else {
-        let PapersRead::Refused(refusal) = read else {
-            return Continued::SpoiltSearch;
-        };
-        return Continued::Refused(refusal);
-    };
+    let (contents, literals) = reading::read_papers(file, sheet)?;
     continue_accepted(file, sheet, contents, literals, dual, list, from, allowance)
 }

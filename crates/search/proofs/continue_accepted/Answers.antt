@@ -1,43 +1,32 @@
 -- `search::continue_accepted` meets its contract: a law of answers for each return.
 use mathlib.Core.Path.{◌≡◌, sym, ap, subst, ◌∙◌}
-use mathlib.Core.Bool.{not}
+use mathlib.Core.Bool.{not, false}
 use Prim.Native.Nat.{◌≤◌}
 use native.Mathlib.Omega.{arith}
+use lib.ListN.{length}
+use Rattle.std.proofs.lemmas.Result.{err_from_is_err_and}
 use Rattle.papers.specs.Outcome.{accepted}
 use Rattle.papers.specs.Reading.{Papers, read_file, read_papers, program_in}
 use Rattle.papers.proofs.FileFacts.{told, program_valid}
 use Rattle.papers.proofs.BothAccepted.{BothTold, both_told}
+use Rattle.dual.specs.Bytes.{dual_of, filled}
 use Rattle.dual_writer.proofs.BothPapers.{papers_in, both_read, both_asked, few_abducibles_lem, few_literals, scenarios_are}
-use Rattle.dual_writer.proofs.BothPapers.{dual_fits, dual_short, dual_stays, dual_kept, dual_filled}
+use Rattle.dual_writer.proofs.BothPapers.{dual_fits, dual_refused, dual_error, dual_stays, dual_kept, dual_filled}
 use Rattle.rows.specs.DualBytes.{DualStarts}
 use Rattle.rows.proofs.EntryBytes.{filled_starts}
 use Rattle.held.specs.HeldCalls.{spoilt_search}
 use Rattle.held.proofs.SearchTests.{unspoilt_record}
 use Rattle.trying.specs.Trying.{problem_of}
+use Rattle.search.specs.Searching.{dual_error as error_by}
 use Rattle.search.proofs.ContinueLaws.{spoilt_is, answers_short, answers_spoilt, answers_report}
 use Rattle.search.proofs.continue_accepted.Goals as goal
-use Rattle.search.proofs.continue_accepted.Goals.{After-write_accepted-written, Start}
+use Rattle.search.proofs.continue_accepted.Goals.{Start, After-write_accepted, In_ok-write_accepted}
 
 both : (c : Start) → BothTold c.args.file.now c.args.sheet.now c.args.contents c.args.literals
 both c = both_told c.args.file.now c.args.sheet.now _ _ c.requires
 
 few : (c : Start) → c.args.literals ≤ 16
 few c = few_literals (both c) c.requires
-
--- ---- once the dual is written
-
-module _ (c : After-write_accepted-written) where
-  abbrev papers : Papers
-  papers = papers_in c.args.file.now c.args.sheet.now c.args.literals
-
-  read : read_papers c.args.file.now c.args.sheet.now ≡ accepted papers
-  read = both_read (both (goal.at.After-write_accepted-written c).Start) (λ i. (c.type_inv.sheet i).fits)
-
-  program : read_file c.args.file.now ≡ accepted papers.program
-  program = (told c.args.file.now _ (both (goal.at.After-write_accepted-written c).Start).answer).is
-
-  spoilt_told : spoilt_search (problem_of papers) c.args.from c.args.list.now ≡ c.is_spoilt_search-spoilt.result
-  spoilt_told = spoilt_is (both (goal.at.After-write_accepted-written c).Start) c.scenario_count-total.ensures c.args.from c.args.list.now c.is_spoilt_search-spoilt.ensures
 
 pub scenario_count-total-requires : goal.scenario_count-total-requires
 scenario_count-total-requires c = few_abducibles_lem (both (goal.at.scenario_count-total-requires c).Start)
@@ -48,21 +37,55 @@ is_spoilt_search-spoilt-requires c = few_abducibles_lem (both (goal.at.is_spoilt
 pub fold_places-places-requires : goal.fold_places-places-requires
 fold_places-places-requires c = (both (goal.at.fold_places-places-requires c).Start).answer
 
-pub returns-in_default : goal.returns-in_default
-returns-in_default c =
+-- ---- once the dual is written or not
+
+module _ (c : After-write_accepted) where
+  abbrev here : BothTold c.args.file.now c.args.sheet.now c.args.contents c.args.literals
+  here = both (goal.at.After-write_accepted c).Start
+
+  abbrev papers : Papers
+  papers = papers_in c.args.file.now c.args.sheet.now c.args.literals
+
+  read : read_papers c.args.file.now c.args.sheet.now ≡ accepted papers
+  read = both_read here (λ i. (c.type_inv.sheet i).fits)
+
+  program : read_file c.args.file.now ≡ accepted papers.program
+  program = (told c.args.file.now _ here.answer).is
+
+  spoilt_told : spoilt_search (problem_of papers) c.args.from c.args.list.now ≡ c.is_spoilt_search-spoilt.result
+  spoilt_told = spoilt_is here c.scenario_count-total.ensures c.args.from c.args.list.now c.is_spoilt_search-spoilt.ensures
+
+-- It is.
+module _ (c : In_ok-write_accepted) where
+  abbrev after : After-write_accepted
+  after = (goal.at.In_ok-write_accepted c).After-write_accepted
+
+  fits : length (dual_of (program_in c.args.file.now)) ≤ length c.args.dual.now
+  fits = dual_fits (program after) c.args.dual.now c.write_accepted.ensures.0 c.in_ok-write_accepted.was
+
+  written : c.is_spoilt_search-spoilt.result ≡ false → c.write_accepted.new.dual ≡ filled (dual_of (program_in c.args.file.now)) c.args.dual.now
+  written e =
+      dual_filled (program after) (not c.is_spoilt_search-spoilt.result) c.args.dual.now c.write_accepted.ensures.1 (ap not e) fits
+
+pub returns-in_err-write_accepted : goal.returns-in_err-write_accepted
+returns-in_err-write_accepted c =
     let a = c.args in
-    let ensured = c.write_accepted-written.ensures in
-    let short = dual_short (program (goal.at.returns-in_default c).After-write_accepted-written) a.dual.now ensured.0 c.in_default.not-Length in
-    answers_short (papers (goal.at.returns-in_default c).After-write_accepted-written) (read (goal.at.returns-in_default c).After-write_accepted-written) a.allowance a.dual.now a.from a.list.now short
-    (dual_stays (program (goal.at.returns-in_default c).After-write_accepted-written) (not c.is_spoilt_search-spoilt.result) a.dual.now ensured.1 short)
+    let place = (goal.at.returns-in_err-write_accepted c).After-write_accepted in
+    let ensured = c.write_accepted.ensures in
+    let p = err_from_is_err_and c.from_residual.result c.from_residual.ensures.1 in
+    let short = dual_refused (program place) a.dual.now ensured.0 c.in_err-write_accepted.was in
+    let error = p.2 ∙ ap error_by (dual_error (program place) a.dual.now ensured.0 c.in_err-write_accepted.was) in
+    let stays = dual_stays (program place) (not c.is_spoilt_search-spoilt.result) a.dual.now ensured.1 short in
+    rw (p.1, error) (answers_short (papers place) (read place) a.allowance a.dual.now a.from a.list.now short stays)
 
 pub returns-then-spoilt : goal.returns-then-spoilt
 returns-then-spoilt c =
     let a = c.args in
-    let ensured = c.write_accepted-written.ensures in
-    answers_spoilt (papers (goal.at.returns-then-spoilt c).After-write_accepted-written) (read (goal.at.returns-then-spoilt c).After-write_accepted-written) a.allowance a.dual.now a.from a.list.now
-    (dual_fits (program (goal.at.returns-then-spoilt c).After-write_accepted-written) a.dual.now ensured.0 c.in-Length.is) (spoilt_told (goal.at.returns-then-spoilt c).After-write_accepted-written ∙ c.if-spoilt.true)
-    (dual_kept (program (goal.at.returns-then-spoilt c).After-write_accepted-written) (not c.is_spoilt_search-spoilt.result) a.dual.now ensured.1 (ap not c.if-spoilt.true))
+    let place = (goal.at.returns-then-spoilt c).After-write_accepted in
+    let spoilt = spoilt_told place ∙ c.if-spoilt.true in
+    let kept = dual_kept (program place) (not c.is_spoilt_search-spoilt.result) a.dual.now c.write_accepted.ensures.1 (ap not c.if-spoilt.true) in
+    answers_spoilt (papers place) (read place) a.allowance a.dual.now a.from a.list.now (fits (goal.at.returns-then-spoilt c).In_ok-write_accepted)
+    spoilt kept
 
 pub overflow_mul-end : goal.overflow_mul-end
 overflow_mul-end c = let f = few (goal.at.overflow_mul-end c).Start in omega arith
@@ -73,31 +96,27 @@ overflow_add-end c = let f = few (goal.at.overflow_add-end c).Start in omega ari
 pub slice_bounds-search_accepted-end : goal.slice_bounds-search_accepted-end
 slice_bounds-search_accepted-end c = let k = (both (goal.at.slice_bounds-search_accepted-end c).Start).within in omega arith
 
-pub search_accepted-report-requires : goal.search_accepted-report-requires
-search_accepted-report-requires c =
+pub search_accepted-requires : goal.search_accepted-requires
+search_accepted-requires c =
     let a = c.args in
     let p = program_in a.file.now in
-    let ensured = c.write_accepted-written.ensures in
-    let unspoilt = c.if-spoilt.false in
-    let fits = dual_fits (program (goal.at.search_accepted-report-requires c).After-write_accepted-written) a.dual.now ensured.0 c.in-Length.is in
-    let filled = dual_filled (program (goal.at.search_accepted-report-requires c).After-write_accepted-written) (not c.is_spoilt_search-spoilt.result) a.dual.now ensured.1 (ap not unspoilt) fits in
+    let here = both (goal.at.search_accepted-requires c).Start in
+    let filled = written (goal.at.search_accepted-requires c).In_ok-write_accepted c.if-spoilt.false in
     record {
       prepared = record {
         walked = c.fold_places-places.ensures;
-        starts = subst (DualStarts p) (sym filled) (filled_starts p (program_valid a.file.now _ (both (goal.at.search_accepted-report-requires c).Start).answer) a.dual.now);
-        asked = both_asked (both (goal.at.search_accepted-report-requires c).Start) (λ i. (c.type_inv.sheet i).fits);
+        starts = subst (DualStarts p) (sym filled) (filled_starts p (program_valid a.file.now _ here.answer) a.dual.now);
+        asked = both_asked here (λ i. (c.type_inv.sheet i).fits);
       };
-      scenarios = scenarios_are (both (goal.at.search_accepted-report-requires c).Start) c.scenario_count-total.ensures;
-      unspoilt = unspoilt_record _ _ _ _ (sym c.is_spoilt_search-spoilt.ensures ∙ unspoilt);
+      scenarios = scenarios_are here c.scenario_count-total.ensures;
+      unspoilt = unspoilt_record _ _ _ _ (sym c.is_spoilt_search-spoilt.ensures ∙ c.if-spoilt.false);
     }
 
 pub returns : goal.returns
 returns c =
-    let searched = c.search_accepted-report.ensures in
     let a = c.args in
-    let ensured = c.write_accepted-written.ensures in
-    let unspoilt = c.if-spoilt.false in
-    let fits = dual_fits (program (goal.at.returns c).After-write_accepted-written) a.dual.now ensured.0 c.in-Length.is in
-    answers_report (papers (goal.at.returns c).After-write_accepted-written) (read (goal.at.returns c).After-write_accepted-written) a.allowance a.dual.now a.from a.list.now fits (spoilt_told (goal.at.returns c).After-write_accepted-written ∙ unspoilt)
-    (dual_filled (program (goal.at.returns c).After-write_accepted-written) (not c.is_spoilt_search-spoilt.result) a.dual.now ensured.1 (ap not unspoilt) fits)
-    searched
+    let place = (goal.at.returns c).After-write_accepted in
+    let done = (goal.at.returns c).In_ok-write_accepted in
+    let unspoilt = spoilt_told place ∙ c.if-spoilt.false in
+    answers_report (papers place) (read place) a.allowance a.dual.now a.from a.list.now (fits done) unspoilt (written done c.if-spoilt.false)
+    c.search_accepted.ensures

@@ -1,26 +1,19 @@
 -- `search::continue_search` meets its contract: the papers are refused, or `continue_accepted` answers.
-use mathlib.Core.Path.{◌≡◌, sym, ◌∙◌}
-use Prim.Native.Nat.{ℕ}
-use native.Mathlib.Omega.{arith}
+use Rattle.std.proofs.lemmas.Result.{err_from_is_err_and}
 use Rattle.papers.specs.Reading.{read_papers}
-use Rattle.papers.proofs.ReadersGot.{papers_refused}
-use Rattle.papers.proofs.ToldLaws.{papers_told_lem}
+use Rattle.papers.specs.Told.{papers_of}
+use Rattle.papers.proofs.ReadersGot.{got_accepted, got_refused, accepted_told}
 use Rattle.search.proofs.ContinueLaws.{answers_refused}
 use Rattle.search.proofs.continue_search.Goals as goal
 
-pub returns-in_default-read : goal.returns-in_default-read
-returns-in_default-read c = let e : ◌≡◌ {A = ℕ} 1 0 = c.in_default-read.in_default-read-own.keys2 in absurd (omega arith)
-
-pub returns-in_default : goal.returns-in_default
-returns-in_default c =
+pub returns-in_err-contents : goal.returns-in_err-contents
+returns-in_err-contents c =
     let a = c.args in
-    let told = papers_told_lem _ c.read_papers-read.ensures in
-    answers_refused (papers_refused (read_papers a.file.now a.sheet.now) told (c.in_default.is ∙ c.in-Refused.is))
-    a.allowance a.dual.now a.from a.list.now
+    let p = err_from_is_err_and c.from_residual.result c.from_residual.ensures.1 in
+    let refused = got_refused _ papers_of (read_papers a.file.now a.sheet.now) c.read_papers.ensures c.in_err-contents.was in
+    rw (p.1, p.2) (answers_refused _ refused a.allowance a.dual.now a.from a.list.now)
 
 pub continue_accepted-requires : goal.continue_accepted-requires
 continue_accepted-requires c =
-    sym (papers_told_lem _ c.read_papers-read.ensures) ∙ c.in-Accepted.is
-
-pub returns : goal.returns
-returns c = c.continue_accepted.ensures
+    let read = read_papers c.args.file.now c.args.sheet.now in
+    accepted_told papers_of read (got_accepted _ papers_of read c.read_papers.ensures c.in_ok-contents.was)
