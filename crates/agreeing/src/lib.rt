@@ -47,6 +47,7 @@ pub fn agreeing_lanes(k: usize, base: u64, held: Masks) -> u64
     }
     let mut word = u64::MAX;
     let mut power: u64 = 1;
+    // An index: bit i of either mask is of the i-th abducible.
     for i in 0..k {
         let assumed = in_lane(u64::from(held.assumed), i);
         let ruled = in_lane(u64::from(held.ruled), i);

@@ -26,6 +26,7 @@ pub fn disagreeing_run(k: usize, scenario: u32, held: Masks) -> u32
     }
     let mut run: u32 = 0;
     let mut power: u32 = 1;
+    // An index: bit i of either mask is of the i-th abducible.
     for i in 0..k {
         let digit = scenario / power % 3;
         let assumed = in_lane(u64::from(held.assumed), i);

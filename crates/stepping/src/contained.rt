@@ -11,6 +11,7 @@ fn digit_table(k: usize, base: u64) -> [[u64; 3]; 16]
 {
     let mut table = [[u64::MAX; 3]; 16];
     let mut power: u64 = 1;
+    // An index: row i is of digit i.
     for i in 0..k {
         let words = digit_lanes(base, power);
         table[i] = [u64::MAX, words.assumed, words.ruled];
