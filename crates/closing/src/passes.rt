@@ -52,6 +52,7 @@ pub fn settle<R: Rows>(rows: &R, visits: &[u16], words: &mut [u64; 513])
     ensures { Settled (R.Puts rows.now) visits.now words.old (length visits.now) words.new }
 {
     let mut start = 0;
+    // From part to part: they are of different lengths.
     while start < visits.len() {
         let end = part_end(visits, start);
         settle_part(rows, &visits[start..end], words);

@@ -14,6 +14,7 @@ pub fn write_words<F: Fn(usize) -> u64>(words: &mut [u64; 513], count: usize, wo
     requires callable { (o : ℕ) → o < count → F.pre word o }
     ensures { WrittenBy (F.post word) count words.old words.new }
 {
+    // An index: the function is of the number.
     for o in 0..count {
         words[o] = word(o);
     }
