@@ -2,7 +2,7 @@
 ghost use Rattle.std.specs.Prelude.{◌≡◌, ◌<◌};
 ghost use Rattle.literals.specs.BodyLiterals.{Below};
 ghost use Rattle.lanes.specs.Lanes.{lane_bit};
-ghost use Rattle.lanes.specs.Words.{OtherLanes, word_of, Literals, BodyWord, Laned};
+ghost use Rattle.lanes.specs.Words.{OtherLanes, word_of, Literals, BodyWord};
 
 use literals::bodies::{BodyLiteral, body_literal};
 use literals::{is_default_negated, objective_of};
@@ -50,16 +50,4 @@ pub fn body_word(body: &[u16], set: &[u64; 513], negated: &[u64; 513], lanes: u6
         word &= word_of(body_literal(usize::from(*number)), set, negated);
     }
     word
-}
-
-// What is known of an array of words by its type, for the proofs: it computes nothing. Only of one that is passed by value is it known at once.
-fn known(words: [u64; 513])
-    ensures { Laned words }
-{}
-
-// The same of one that is lent.
-pub fn lent_known(words: &[u64; 513])
-    ensures { Laned words.now }
-{
-    known(*words)
 }
