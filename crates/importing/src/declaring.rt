@@ -32,7 +32,7 @@ pub(crate) fn declare(text: &[u8]) -> Result<[bool; 256], TextRefusal>
     Ok(flags)
 }
 
-// The abducible atoms, rising: how many they are, and the first 17 of them.
+// The abducible atoms, rising, in memory of fixed size: how many they are, and the first 17 of them.
 #[derive(Drop)]
 pub(crate) struct Abducibles {
     pub count: usize,
@@ -55,7 +55,7 @@ pub(crate) fn rising(flags: &[bool; 256], atoms: usize) -> Abducibles
 {
     let mut count = 0;
     let mut numbers = [0; 17];
-    // The index is the atom.
+    // An index that is a number of the problem: the atom.
     for atom in 0..atoms {
         if flags[atom] {
             put(&mut numbers, count, atom as u16);

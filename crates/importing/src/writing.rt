@@ -23,7 +23,7 @@ fn write_line(buffer: &mut [u8], text: &[u8], at: usize, line: Brief, kind: Line
     write_field(buffer, kind.tag(), &numbers[..line.count])
 }
 
-// The fields of one kind; their length.
+// The fields of one kind of a text that was read, so that no line of it is refused; their length.
 fn write_run(buffer: &mut [u8], text: &[u8], kind: LineKind) -> usize
     requires { RunFits text.now (tag_byte kind) (length buffer.old) }
     ensures { Fills (encode_run (tag_byte kind) (contents_in (tag_byte kind) text.now)) buffer.old result buffer.new }

@@ -42,7 +42,7 @@ pub struct Brief {
 }
 
 impl Brief {
-    // A line that begins with `false`.
+    // A line that begins with `false`. It has no head: its atom is never asked for, since every reader of one tests the kind.
     fn denial(start: usize) -> Brief
         ensures { result ≡ denial_briefly start }
     {
@@ -99,7 +99,7 @@ pub enum Stage {
     Said(Brief),
 }
 
-// What a token does to it: the line goes on or ends, or the token is not allowed there.
+// What a token does: the line goes on or ends, or the token is not allowed there.
 #[derive(Clone, Copy)]
 pub enum Move {
     Goes(Stage),
@@ -108,6 +108,7 @@ pub enum Move {
 }
 
 impl Stage {
+    // What a token at a place does, by the rows that the form of a line allows.
     #[tactic(auto, unfolding(crate::specs::Briefly::step_briefly))]
     pub(crate) fn step(self, place: usize, token: Token) -> Move
         ensures { result ≡ step_briefly self place (kind_of token) (number_of token) }
@@ -135,6 +136,7 @@ impl Stage {
             (Stage::Due(line), Token::Not) => Move::Goes(Stage::Denied(line)),
             (Stage::Due(line), Token::Minus) => Move::Goes(Stage::NegatedIn(line)),
             (Stage::Denied(line), Token::Minus) => Move::Goes(Stage::DeniedNegated(line)),
+            // Four rows with one action: a line bound by an or-pattern beside the atom gets no proof.
             (Stage::Due(line), Token::Atom(a)) => Move::Goes(Stage::Said(line.also(a))),
             (Stage::Denied(line), Token::Atom(a)) => Move::Goes(Stage::Said(line.also(a))),
             (Stage::NegatedIn(line), Token::Atom(a)) => Move::Goes(Stage::Said(line.also(a))),

@@ -27,7 +27,8 @@ fn number_said(stage: Stage, token: Token) -> Option<(usize, u16)>
     }
 }
 
-// The first 17 numbers of the line from a place on, and zeros after the last.
+// The first 17 numbers of the line from a place on, and zeros after the last, in memory of fixed size. How many they are, `read_line`
+// tells.
 pub fn numbers_in(text: &[u8], from: usize) -> [u16; 17]
     requires { from ≤ length text.now }
     ensures { NumbersTell text.now from result }
