@@ -87,13 +87,6 @@ loop-line-preserved c =
     check_other c.args.text.now p.0 c.loop-line.invariant p.1.1.0 (tag_high c.args.kind) (ends (goal.at.loop-line-preserved c).In-Some)
     c.args.flags.now p.1.0 (other_kind _ _ c.eq.ensures c.if-eq.false)
 
-pub loop-line-smaller-in_default-check_line : goal.loop-line-smaller-in_default-check_line
-loop-line-smaller-in_default-check_line c =
-    let m = ends (goal.at.loop-line-smaller-in_default-check_line c).In-Some in omega (arith, m.later, m.within)
-
-pub loop-line-smaller : goal.loop-line-smaller
-loop-line-smaller c = let m = ends (goal.at.loop-line-smaller c).In-Some in omega (arith, m.later, m.within)
-
 pub returns : goal.returns
 returns c =
     let g = c.loop-line.invariant in

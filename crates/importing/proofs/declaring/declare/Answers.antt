@@ -1,6 +1,5 @@
 -- `importing::declaring::declare` meets its contract. The loop's invariant: the flags are those of the atoms declared so far.
 use mathlib.Core.Path.{refl}
-use native.Mathlib.Omega.{arith}
 use Rattle.std.proofs.lemmas.Result.{err_from_is_err_and}
 use Rattle.text.specs.declared.line.LineKind.TheVariants.{Abducible}
 use Rattle.text.specs.Lines.{fresh}
@@ -44,12 +43,6 @@ loop-line-preserved c =
       | else-eq-via-else-eq w ↦
           other_declared c.args.text.now c.requires c.loop-line.invariant m (other_kind c.in-Some.line.kind Abducible c.eq.ensures w.if-eq.false)
     ]
-
-pub loop-line-smaller-else-room-eq0 : goal.loop-line-smaller-else-room-eq0
-loop-line-smaller-else-room-eq0 c = let m = ends (goal.at.loop-line-smaller-else-room-eq0 c).In-Some in omega (arith, m.later, m.within)
-
-pub loop-line-smaller : goal.loop-line-smaller
-loop-line-smaller c = let m = ends (goal.at.loop-line-smaller c).In-Some in omega (arith, m.later, m.within)
 
 pub returns : goal.returns
 returns c =

@@ -1,5 +1,4 @@
 -- `importing::surveying::survey` meets its contract. The loop's invariant: the atom count of the lines that were read.
-use native.Mathlib.Omega.{arith}
 use borrow.Author.Rules.{rules}
 use Rattle.std.proofs.lemmas.Result.{err_from_is_err_and}
 use Rattle.text.specs.Told.{reading_told}
@@ -17,9 +16,6 @@ returns-in_err-line c =
 
 pub loop-line-preserved : goal.loop-line-preserved
 loop-line-preserved c = survey_on c.loop-line.invariant (rw c.in-Some.is at c.in_ok-line.ensures) (search rules)
-
-pub loop-line-smaller : goal.loop-line-smaller
-loop-line-smaller c = let m = rw c.in-Some.is at c.in_ok-line.ensures in omega (arith, m.later, m.within)
 
 pub returns : goal.returns
 unfolding reading_told

@@ -38,9 +38,6 @@ module _ (c : After-write_line-end) where
 pub loop-line-init : goal.loop-line-init
 loop-line-init c = (writing_none _ _ _, refl)
 
-pub slice_bounds-write_line-count : goal.slice_bounds-write_line-count
-slice_bounds-write_line-count c = inside c
-
 pub write_line-end-requires : goal.write_line-end-requires
 write_line-end-requires c =
     let at = c.loop-line in
@@ -53,9 +50,6 @@ overflow_add-end c =
     let here = (goal.at.overflow_add-end c).In-Ok-Some in
     let size = size_here c.args.text.now c.requires c.loop-line.invariant.0 (ends here) (filled (goal.at.overflow_add-end c).After-write_line-end) in
     omega (arith, room here, size)
-
-pub loop-line-smaller : goal.loop-line-smaller
-loop-line-smaller c = let m = ends (goal.at.loop-line-smaller c).In-Ok-Some in omega (arith, m.later, m.within)
 
 pub loop-line-preserved : goal.loop-line-preserved
 loop-line-preserved c =
