@@ -5,11 +5,11 @@ ghost use Rattle.std.specs.Prelude.{◌≡◌, [], ◌∷◌, ◌+◌, ◌<◌, 
 ghost use Rattle.decimals.specs.Decimal.{decimal};
 ghost use Rattle.decimals.specs.Printing.{Printed};
 
-// A place in a lent buffer, from which on text is printed. Bytes past the buffer's end are left out, and the place counts them.
+// A place in a lent buffer, from which on text is printed; it may be any. Bytes past the buffer's end are left out, and the place counts them.
 #[derive(Drop)]
 pub struct Printer<'a> {
-    buffer: &'a mut [u8],
-    at: usize,
+    pub buffer: &'a mut [u8],
+    pub at: usize,
 }
 
 impl<'a> Printer<'a> {
