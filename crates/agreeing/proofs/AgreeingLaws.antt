@@ -9,11 +9,11 @@ use native.Mathlib.Decide.{ℕ_discrete}
 use native.Mathlib.Omega.{arith}
 use lib.Bits.{bit_and}
 use lib.Dec.{eqb, eqb→eq}
-use lib.ListN.{length, get_or, set, replicate, length-set, get_or-replicate}
+use lib.ListN.{length, get_or, set, replicate, length-set, length-replicate, get_or-replicate}
 use Rattle.papers.specs.Tests.{◌and◌, ◌or◌}
 use Rattle.papers.proofs.TestLaws.{left, right, passes, and_true, and_assoc}
 use Rattle.lanes.specs.Lanes.{lane_bit, Written}
-use Rattle.lanes.proofs.LaneLaws.{lane_and, lane_full, written_more}
+use Rattle.lanes.proofs.LaneLaws.{lane_and, lane_full, written_none, written_more}
 use Rattle.digits.specs.Digits.{DigitLanes}
 use Rattle.held.specs.declared.Masks.{Masks}
 use Rattle.held.specs.Masks.{keeps, agrees_at, agrees}
@@ -88,6 +88,9 @@ rounds_in word rounds l = cond (lane_bit l word) (get_or rounds l 0) 0
 pub record RoundsBelow (l word : ℕ) (rounds after : List ℕ) : Type 0 where
   pub size : length after ≡ 64
   pub done : Written l (rounds_in word rounds) (replicate 64 0) after
+
+pub rounds_none : (word : ℕ) (rounds : List ℕ) → RoundsBelow 0 word rounds (replicate 64 0)
+rounds_none word rounds = record { size = length-replicate {A = ℕ} 64 0; done = written_none (rounds_in word rounds) (replicate 64 0) }
 
 rounds_next : {l word own : ℕ} {rounds after : List ℕ} → RoundsBelow l word rounds after → l < 64 → own ≡ rounds_in word rounds l
     → RoundsBelow (l + 1) word rounds (set after l own)

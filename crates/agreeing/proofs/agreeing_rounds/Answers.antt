@@ -1,9 +1,12 @@
 -- The lanes behind have their rounds.
 use native.Mathlib.Omega.{arith}
 use mathlib.Core.Path.{sym, ◌∙◌}
-use Rattle.agreeing.proofs.AgreeingLaws.{rounds_kept, rounds_left, rounds_all}
+use Rattle.agreeing.proofs.AgreeingLaws.{rounds_none, rounds_kept, rounds_left, rounds_all}
 use Rattle.agreeing.proofs.agreeing_rounds.Goals as goal
 use Rattle.agreeing.proofs.agreeing_rounds.Goals.{then-in_lane, else-in_lane}
+
+pub loop-l-init : goal.loop-l-init
+loop-l-init c = rounds_none _ _
 
 pub loop-l-preserved : goal.loop-l-preserved
 loop-l-preserved c =
