@@ -11,6 +11,7 @@ use model::scenario_count;
 use papers::Refusal;
 pub use valuation::Verdict;
 use valuation::judge_accepted;
+use verdicts::AcceptedPapers;
 
 // What refuses judging: document 01's refusals 11, 12 and 13, or one of the papers'.
 #[derive(Clone, Copy, PartialEq, Eq, Debug)]
@@ -61,6 +62,12 @@ pub fn judge(
     if !listed {
         return Err(JudgeError::NoScenario);
     }
-    let query = &sheet[3..3 + 2 * literals];
-    Ok(judge_accepted(file, contents, &places, dual, query, scenario, model))
+    let papers = AcceptedPapers {
+        file,
+        contents,
+        places: &places,
+        dual,
+        query: &sheet[3..3 + 2 * literals],
+    };
+    Ok(judge_accepted(&papers, scenario, model))
 }

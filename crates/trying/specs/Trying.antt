@@ -1,11 +1,10 @@
 -- A call over accepted papers: the problem that they come to, what is told of it, and what its functions require.
 use Rattle.std.specs.Prelude.{◌≡◌, false, cond, List, ℕ, ◌+◌, ◌^◌, ◌<◌, ◌≤◌, eqb, length, get_or}
-use Rattle.papers.specs.declared.Contents.{Contents}
 use Rattle.papers.specs.Program.{Query}
 use Rattle.papers.specs.Reading.{program_in, Papers}
 use Rattle.model.specs.Model.{rounds, explains}
-use Rattle.preparing.specs.Preparing.{PapersStand}
-use Rattle.verdicts.specs.VerdictLanes.{DecodedPapers}
+use Rattle.verdicts.specs.declared.AcceptedPapers.{AcceptedPapers}
+use Rattle.verdicts.specs.VerdictLanes.{Stands, DecodedPapers}
 use Rattle.trying.specs.declared.Report.{Report as CallReport}
 use Rattle.trying.specs.declared.Search.{Search}
 use Rattle.verdicts.specs.declared.Verdicts.{Verdicts}
@@ -82,10 +81,9 @@ pub record Ready (s : Search) (count : ℕ) (before : Progress) (list : List ℕ
   pub room : before.tried + count < 4294967296
 
 -- Papers that can be judged, and a record and a list that pass test 14.
-pub record Passed (file : List ℕ) (contents : Contents) (places dual query : List ℕ) (total : ℕ) (from : SearchRecord) (list : List ℕ)
-    : Type 0 where
-  pub prepared : PapersStand file contents places dual query
-  pub scenarios : total ≡ 3 ^ length (program_in file).abducibles
+pub record Passed (papers : AcceptedPapers) (total : ℕ) (from : SearchRecord) (list : List ℕ) : Type 0 where
+  pub prepared : Stands papers
+  pub scenarios : total ≡ 3 ^ length (program_in papers.file.now).abducibles
   pub unspoilt : spoilt_by total from.at list ≡ false
 
 -- What continuing with the held faults leaves: the report and the list, by its definition.

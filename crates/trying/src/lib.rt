@@ -12,10 +12,9 @@ ghost use Rattle.trying.specs.Trying.{problem_in, problem_held, report_by, untri
 use agreeing::runs::disagreeing_run;
 use agreeing::{agreeing_lanes, agreeing_rounds};
 use held::{Masks, SearchRecord};
-use papers::Contents;
 use stepping::{Progress, try_lanes};
 use steps::{Record, State};
-use verdicts::{AskedFile, Room, Verdicts};
+use verdicts::{AcceptedPapers, AskedFile, Room, Verdicts};
 
 // What a call reports: the new record, the scenarios tried and their rounds, and the state.
 #[derive(Clone, Copy)]
@@ -186,18 +185,14 @@ fn untried(from: Record) -> Progress
 
 // A call on a record and a list that pass test 14: the papers are decoded, and their scenarios tried. Where nothing may be tried, nothing is decoded.
 pub fn search_accepted(
-    file: &[u8],
-    contents: Contents,
-    places: &[usize; 1280],
-    dual: &[u8],
-    query: &[u8],
+    papers: &AcceptedPapers,
     list: &mut [u32],
     total: u32,
     from: SearchRecord,
     allowance: u32,
 ) -> Report
-    requires { Passed file.now contents places.now dual.now query.now total from list.old }
-    ensures { Continues (problem_in file.now (numbers query.now)) allowance from list.old result list.new }
+    requires { Passed papers.now total from list.old }
+    ensures { Continues (problem_in papers.now.file.now (numbers papers.now.query.now)) allowance from list.old result list.new }
 {
     let before = untried(from.at);
     if allowance == 0 {
@@ -205,7 +200,7 @@ pub fn search_accepted(
     }
     let mut room = Room::CLEAR;
     let search = Search {
-        papers: room.decode(file, contents, places, dual, query),
+        papers: room.decode(papers),
         held: from.held,
         total,
     };

@@ -9,13 +9,11 @@ ghost use Rattle.papers.specs.Field.{numbers};
 ghost use Rattle.papers.specs.Reading.{program_in};
 ghost use Rattle.dual.specs.Bytes.{filled};
 ghost use Rattle.model.specs.Model.{rounds, model_bytes, explains};
-ghost use Rattle.preparing.specs.Preparing.{PapersStand};
-ghost use Rattle.verdicts.specs.VerdictLanes.{DecodedPapers};
+ghost use Rattle.verdicts.specs.VerdictLanes.{Stands, DecodedPapers};
 
 use lanes::words::in_lane;
-use papers::Contents;
 use values::write_values;
-use verdicts::{AskedFile, Room, explained_lanes};
+use verdicts::{AcceptedPapers, AskedFile, Room, explained_lanes};
 
 // Whether the scenario is an explanation, and the round count of its model.
 #[derive(Clone, Copy)]
@@ -44,21 +42,12 @@ fn judge_decoded(papers: &AskedFile, scenario: u32, model: &mut [u8]) -> Verdict
 }
 
 // Over accepted papers, with the dual in its buffer and room for the model.
-pub fn judge_accepted(
-    file: &[u8],
-    contents: Contents,
-    places: &[usize; 1280],
-    dual: &[u8],
-    query: &[u8],
-    scenario: u32,
-    model: &mut [u8],
-) -> Verdict
-    requires { PapersStand file.now contents places.now dual.now query.now × (judged (program_in file.now).atoms ≤ length model.old) }
-    ensures { (result.explains ≡ explains (program_in file.now) (numbers query.now) scenario)
-        × (result.rounds ≡ rounds (program_in file.now) scenario)
-        × (model.new ≡ filled (model_bytes (program_in file.now) scenario) model.old) }
+pub fn judge_accepted(papers: &AcceptedPapers, scenario: u32, model: &mut [u8]) -> Verdict
+    requires { Stands papers.now × (judged (program_in papers.now.file.now).atoms ≤ length model.old) }
+    ensures { (result.explains ≡ explains (program_in papers.now.file.now) (numbers papers.now.query.now) scenario)
+        × (result.rounds ≡ rounds (program_in papers.now.file.now) scenario)
+        × (model.new ≡ filled (model_bytes (program_in papers.now.file.now) scenario) model.old) }
 {
     let mut room = Room::CLEAR;
-    let papers = room.decode(file, contents, places, dual, query);
-    judge_decoded(&papers, scenario, model)
+    judge_decoded(&room.decode(papers), scenario, model)
 }

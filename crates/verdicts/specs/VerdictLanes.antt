@@ -10,7 +10,13 @@ use Rattle.model.specs.LeastSet.{body_holds}
 use Rattle.model.specs.Model.{rounds, value_bytes, contradictory, explains}
 use Rattle.lanes.specs.Lanes.{lane_bit, lane}
 use Rattle.settling.specs.DecodedFiles.{FileDecoded}
+use Rattle.preparing.specs.Preparing.{PapersStand}
+use Rattle.verdicts.specs.declared.AcceptedPapers.{AcceptedPapers}
 use Rattle.verdicts.specs.declared.AskedFile.{AskedFile}
+
+-- The file is accepted, its dual stands in its buffer, and the query is one that it allows.
+abbrev pub Stands : AcceptedPapers → Type 0
+Stands a = PapersStand a.file.now a.contents a.places.now a.dual.now a.query.now
 
 -- Accepted papers decoded: the rules and the dual of the file and the query of the sheet as numbers.
 pub record DecodedPapers (a : AskedFile) : Type 0 where

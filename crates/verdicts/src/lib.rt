@@ -6,8 +6,7 @@ ghost use Rattle.literals.specs.Numbering.{judged};
 ghost use Rattle.papers.specs.Field.{numbers};
 ghost use Rattle.papers.specs.Reading.{program_in};
 ghost use Rattle.lanes.specs.Words.{Literals};
-ghost use Rattle.preparing.specs.Preparing.{PapersStand};
-ghost use Rattle.verdicts.specs.VerdictLanes.{DecodedPapers, BothLanes, ExplainedWord, VerdictLanes};
+ghost use Rattle.verdicts.specs.VerdictLanes.{Stands, DecodedPapers, BothLanes, ExplainedWord, VerdictLanes};
 
 use lanes::words::body_word;
 use papers::Contents;
@@ -45,6 +44,16 @@ pub struct Verdicts {
     pub rounds: [u64; 64],
 }
 
+// Accepted papers: a file with where its folds stand, the dual in its buffer, and the bytes of the query.
+#[derive(Clone, Copy)]
+pub struct AcceptedPapers<'a> {
+    pub file: &'a [u8],
+    pub contents: Contents,
+    pub places: &'a [usize; 1280],
+    pub dual: &'a [u8],
+    pub query: &'a [u8],
+}
+
 // Room for the numbers of any papers.
 #[derive(Drop)]
 pub struct Room {
@@ -64,25 +73,18 @@ impl Room {
         asked: [0; 16],
     };
 
-    // Accepted papers, with the dual in its buffer, decoded into the room.
-    pub fn decode<'a>(
-        &'a mut self,
-        file: &'a [u8],
-        contents: Contents,
-        places: &[usize; 1280],
-        dual: &[u8],
-        query: &[u8],
-    ) -> AskedFile<'a>
-        requires { PapersStand file.now contents places.now dual.now query.now }
-        ensures { DecodedPapers result × (result.decoded.file.now ≡ file.now)
-            × (result.decoded.contents ≡ contents) × (result.query.now ≡ numbers query.now) }
+    // The papers decoded into the room.
+    pub fn decode<'a, 'b: 'a>(&'a mut self, papers: &AcceptedPapers<'b>) -> AskedFile<'a>
+        requires { Stands papers.now }
+        ensures { DecodedPapers result × (result.decoded.file.now ≡ papers.now.file.now)
+            × (result.decoded.contents ≡ papers.now.contents) × (result.query.now ≡ numbers papers.now.query.now) }
     {
         let counts = prepare(
-            file,
-            contents,
-            places,
-            dual,
-            query,
+            papers.file,
+            papers.contents,
+            papers.places,
+            papers.dual,
+            papers.query,
             &mut self.rules,
             &mut self.rule_visits,
             &mut self.entries,
@@ -91,8 +93,8 @@ impl Room {
         );
         AskedFile {
             decoded: DecodedFile {
-                file,
-                contents,
+                file: papers.file,
+                contents: papers.contents,
                 rules: &self.rules,
                 rule_visits: &self.rule_visits[..counts.folds],
                 entries: &self.entries,

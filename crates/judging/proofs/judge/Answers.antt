@@ -132,14 +132,14 @@ module _ (c : Else-not-listed) where
   large : judged (papers (accepts written)).program.atoms ≤ length c.args.model.now
   large = omega (arith, atoms (accepts written), c.judged.ensures, c.if-not-room.false)
 
-pub overflow_mul-query : goal.overflow_mul-query
-overflow_mul-query c = let f = few (goal.at.overflow_mul-query c).In_ok-contents in omega arith
+pub overflow_mul-papers : goal.overflow_mul-papers
+overflow_mul-papers c = let f = few (goal.at.overflow_mul-papers c).In_ok-contents in omega arith
 
-pub overflow_add-query : goal.overflow_add-query
-overflow_add-query c = let f = few (goal.at.overflow_add-query c).In_ok-contents in omega arith
+pub overflow_add-papers : goal.overflow_add-papers
+overflow_add-papers c = let f = few (goal.at.overflow_add-papers c).In_ok-contents in omega arith
 
-pub slice_bounds-query-end : goal.slice_bounds-query-end
-slice_bounds-query-end c = let k = (both (goal.at.slice_bounds-query-end c).In_ok-contents).within in omega arith
+pub slice_bounds-papers-end : goal.slice_bounds-papers-end
+slice_bounds-papers-end c = let k = (both (goal.at.slice_bounds-papers-end c).In_ok-contents).within in omega arith
 
 pub judge_accepted-requires : goal.judge_accepted-requires
 judge_accepted-requires c =
