@@ -12,6 +12,7 @@ use held::{SearchRecord, is_spoilt_search};
 use model::scenario_count;
 use papers::{Contents, Refusal};
 use trying::{Report, search_accepted};
+use verdicts::AcceptedPapers;
 
 // What refuses a call that continues: document 01's refusals 11 and 14, or one of the papers'.
 #[derive(Clone, Copy, PartialEq, Eq, Debug)]
@@ -63,17 +64,14 @@ fn continue_accepted(
         return Err(ContinueError::SpoiltSearch);
     }
     let end = 3 + 2 * literals;
-    Ok(search_accepted(
+    let papers = AcceptedPapers {
         file,
         contents,
-        &places,
+        places: &places,
         dual,
-        &sheet[3..end],
-        list,
-        total,
-        from,
-        allowance,
-    ))
+        query: &sheet[3..end],
+    };
+    Ok(search_accepted(&papers, list, total, from, allowance))
 }
 
 pub fn continue_search(

@@ -93,8 +93,8 @@ overflow_mul-end c = let f = few (goal.at.overflow_mul-end c).Start in omega ari
 pub overflow_add-end : goal.overflow_add-end
 overflow_add-end c = let f = few (goal.at.overflow_add-end c).Start in omega arith
 
-pub slice_bounds-search_accepted-end : goal.slice_bounds-search_accepted-end
-slice_bounds-search_accepted-end c = let k = (both (goal.at.slice_bounds-search_accepted-end c).Start).within in omega arith
+pub slice_bounds-papers-end : goal.slice_bounds-papers-end
+slice_bounds-papers-end c = let k = (both (goal.at.slice_bounds-papers-end c).Start).within in omega arith
 
 pub search_accepted-requires : goal.search_accepted-requires
 search_accepted-requires c =
