@@ -1,5 +1,5 @@
 -- Arrays that are written from their start on, and visits in an order that was tested. Assumes nothing.
-use mathlib.Core.Path.{◌≡◌, sym, ap, ◌∙◌}
+use mathlib.Core.Path.{◌≡◌, ap, ◌∙◌}
 use mathlib.Core.List.{List}
 use Prim.Native.Nat.{ℕ, ◌+◌, ◌<◌}
 use native.Mathlib.Omega.{arith}
@@ -7,7 +7,7 @@ use lib.ListN.{length, get_or, set, length-set}
 use lib.Seq.{get_or-set_other}
 use Rattle.papers.proofs.Lists.{set_more}
 use Rattle.rows.specs.Visits.{Visits}
-use Rattle.ordering.specs.Orders.{Placed, Ordered, Written, own, start_at}
+use Rattle.ordering.specs.Orders.{Ordered, Written, start_at}
 
 -- ---- writing
 
@@ -23,26 +23,6 @@ written_more {number = number} {i = i} {after = after} v h e w = record {
 }
 
 -- ---- orders
-
--- What the test reads at one place.
-pub placed_there : {count k row rank back : ℕ} (order ranks : List ℕ) → row ≡ get_or order k 0 → row < count → rank ≡ get_or ranks k 0 → rank < count
-    → back ≡ get_or order rank 0 → back ≡ k → Placed count order ranks k
-placed_there order ranks e h f g p q = record {
-  row_below = omega arith;
-  rank_below = omega arith;
-  at_rank = ap (λ (n : ℕ). get_or order n 0) (sym f) ∙ sym p ∙ q;
-}
-
--- The rows' own order passes the test.
-pub own_ordered : {count : ℕ} {before order between ranks : List ℕ} → Written own count before order → Written own count between ranks
-    → Ordered count order ranks
-own_ordered {order = order} w v = record {
-  placed = λ k h. record {
-    row_below = let e = w.at k h in omega arith;
-    rank_below = let e = v.at k h in omega arith;
-    at_rank = ap (λ (n : ℕ). get_or order n 0) (v.at k h) ∙ w.at k h;
-  };
-}
 
 -- Whoever visits the rows in such an order visits every row and nothing else.
 pub visits_all : {count : ℕ} {order ranks starts before visits : List ℕ} → Ordered count order ranks

@@ -3,7 +3,7 @@
 use mathlib.Core.Path.{◌≡◌, sym, ap, ◌∙◌}
 use mathlib.Core.Bool.{true}
 use mathlib.Core.List.{List, [], ◌∷◌}
-use Prim.Native.Nat.{ℕ, zero, suc, ◌+◌, ◌/◌, ◌%◌, ◌≤◌, ◌<◌}
+use Prim.Native.Nat.{ℕ, zero, suc, ◌+◌, ◌≤◌, ◌<◌}
 use native.Mathlib.Omega.{arith}
 use native.Mathlib.Decide.{ℕ_discrete}
 use borrow.Author.Count.{below_more}
@@ -11,9 +11,7 @@ use borrow.Author.Tests.{leb-true}
 use lib.Dec.{leb}
 use lib.ListN.{length, get_or, set, length-set}
 use lib.Seq.{get_or-set_same, get_or-set_other}
-use Rattle.parts.specs.declared.RowKind.{RowKind}
-use Rattle.parts.specs.declared.RowKind.TheVariants.{Rule, Entry}
-use Rattle.parts.specs.Parts.{parity, place_of, ends_part, Unmarked, Marked, Asks, head_at, Parted}
+use Rattle.parts.specs.Parts.{place_of, ends_part, Unmarked, Marked, Asks, head_at, Parted}
 use Rattle.parts.specs.Reaches.{Lasts, Within, Reaches, RowReaches}
 use Rattle.parts.proofs.MarkedParts.{unmarked_place}
 
@@ -45,39 +43,12 @@ lasts_more {count = count} {done = done} {head = head} {numbers = numbers} {visi
 
 -- ---- how far a row asks
 
-parity_few : (kind : RowKind) → parity kind < 2
-parity_few Rule = omega arith
-parity_few Entry = omega arith
-
--- A number that asks does so for its half.
-pub within_half : {count number reach last : ℕ} (kind : RowKind) (lasts : List ℕ) → last ≡ get_or lasts (number / 2) count → last ≤ reach
-    → Within (parity kind) count lasts number reach
-within_half {count = count} {number = number} kind lasts e h = record {
-  asked = λ o a.
-      let few = parity_few kind in
-      let q : o ≡ number / 2 = omega arith in
-      let p : get_or lasts o count ≡ get_or lasts (number / 2) count = ap (λ (n : ℕ). get_or lasts n count) q in
-      omega arith;
-}
-
--- One of the other parity asks for nothing.
-pub within_other : {count number reach : ℕ} {lasts : List ℕ} (kind : RowKind) → (number % 2 ≡ parity kind → ⊥)
-    → Within (parity kind) count lasts number reach
-within_other kind odd = record { asked = λ o a. let few = parity_few kind in absurd (odd (omega arith)) }
-
 within_up : {by count number reach more : ℕ} {lasts : List ℕ} → reach ≤ more → Within by count lasts number reach → Within by count lasts number more
 within_up h w = record { asked = λ o a. let l = w.asked o a in omega arith }
 
 reaches_up : {by count place size reach more : ℕ} {numbers lasts : List ℕ} → reach ≤ more → Reaches by count numbers lasts place size reach
     → Reaches by count numbers lasts place size more
 reaches_up h r = record { each = λ k b. within_up h (r.each k b) }
-
--- One number more.
-pub reaches_more : {by count place at reach more : ℕ} {numbers lasts : List ℕ} → reach ≤ more → Within by count lasts (get_or numbers (place + 2 + at) 0) more
-    → Reaches by count numbers lasts place at reach → Reaches by count numbers lasts place (at + 1) more
-reaches_more {by = by} {count = count} {place = place} {at = at} {more = more} {numbers = numbers} {lasts = lasts} h w r = record {
-  each = below_more (λ k. Within by count lasts (get_or numbers (place + 2 + k) 0) more) at (reaches_up h r).each w;
-}
 
 -- ---- the marks
 

@@ -6,7 +6,7 @@ use mathlib.Core.List.{List, [], ◌∷◌, ◌++◌, map, append_assoc}
 use Prim.Native.Nat.{ℕ, zero, suc, ◌+◌, ◌-◌, ◌*◌, ◌/◌, ◌%◌, ◌≤◌, ◌<◌}
 use native.Mathlib.Omega.{arith}
 use borrow.Author.Tests.{eq-eqb, ne_eqb}
-use lib.ListN.{length, get_or, take, drop, length-append, length-drop, take-append-drop}
+use lib.ListN.{length, get_or, take, drop, length-append, take-append-drop}
 use lib.Seq.{take_at, drop-drop, get_or-drop, take-append_seam}
 use Rattle.std.proofs.Common.{Some, None}
 use Rattle.literals.specs.Numbering.{judged}
@@ -69,9 +69,6 @@ listed_part bytes place start next s e =
 -- ---- the first field
 
 module _ (bytes : List ℕ) (place : ℕ) where
-  pub literal_numbered : FieldStands (drop place bytes) → get_or bytes place 0 ≡ 0x08 → place + 3 + 1 < length bytes
-  literal_numbered s e = let l = length-drop place bytes in omega (arith, s.numbered (tag_there place bytes ∙ e))
-
   -- An 08 field has its number after its heading; another field has none.
   pub literal_is : get_or bytes place 0 ≡ 0x08 → literal_in (drop place bytes) ≡ Some (number_in bytes (place + 3))
   unfolding literal_in

@@ -37,9 +37,6 @@ room c =
     let size = table_length (program (goal.at.After-write_entries-end c).Start) in
     omega (arith, w.ensures.0, w.auto.buffer, c.dual_length-size.ensures, c.if-dual-size.false)
 
-pub dual_length-size-requires : goal.dual_length-size-requires
-dual_length-size-requires c = linked (goal.at.dual_length-size-requires c).After-of-chains
-
 pub returns-then-dual-size : goal.returns-then-dual-size
 returns-then-dual-size c =
     let start = (goal.at.returns-then-dual-size c).Start in
@@ -52,16 +49,6 @@ returns-then-not-allowed c =
     let a = c.args in
     let size = dual_length_is a.file.now a.dual.now (program start) (read start) c.dual_length-size.ensures c.if-dual-size.false in
     (size, rw (c.if-not-allowed.true))
-
-pub write_entries-end-requires : goal.write_entries-end-requires
-write_entries-end-requires c =
-    (linked (goal.at.write_entries-end-requires c).After-of-chains, omega (arith, c.dual_length-size.ensures, c.if-dual-size.false))
-
-pub slice_bounds-write_end-count : goal.slice_bounds-write_end-count
-slice_bounds-write_end-count c = omega (arith, room (goal.at.slice_bounds-write_end-count c).After-write_entries-end)
-
-pub slice_bounds-write_end-start : goal.slice_bounds-write_end-start
-slice_bounds-write_end-start c = omega (arith, room (goal.at.slice_bounds-write_end-start c).After-write_entries-end)
 
 pub write_end-requires : goal.write_end-requires
 write_end-requires c =

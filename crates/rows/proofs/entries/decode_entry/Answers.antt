@@ -194,11 +194,6 @@ bounds-numbers-at-2 c =
     let at_end = (goal.at.bounds-numbers-at-2 c).After-slice_known-2-1 in
     omega (arith, room s, sized s, written_kept at_end)
 
-pub shape_of-numbers : goal.shape_of-numbers
-shape_of-numbers c =
-    let at_end = (goal.at.shape_of-numbers c).After-slice_known-2-1 in
-    simp length-set (written_kept at_end)
-
 pub returns : goal.returns
 returns c =
     let s = (goal.at.returns c).Start in

@@ -36,31 +36,6 @@ module _ (c : After-number_at) where
   listed : numbers part ≡ listed_in bytes
   listed = let e = sized in listed_part c.args.dual.now c.args.from.place (c.args.from.place + 5) next refl (omega arith)
 
-pub overflow_add-start : goal.overflow_add-start
-overflow_add-start c =
-    let at_start = (goal.at.overflow_add-start c).Start in
-    omega (arith, within at_start)
-
-pub overflow_add-from : goal.overflow_add-from
-overflow_add-from c =
-    let at_start = (goal.at.overflow_add-from c).Start in
-    omega (arith, within at_start)
-
-pub overflow_add-place : goal.overflow_add-place
-overflow_add-place c =
-    let at_start = (goal.at.overflow_add-place c).Start in
-    omega (arith, within at_start)
-
-pub number_at-requires : goal.number_at-requires
-number_at-requires c =
-    let at_start = (goal.at.number_at-requires c).Start in
-    omega (arith, within at_start)
-
-pub overflow_add-place-2 : goal.overflow_add-place-2
-overflow_add-place-2 c =
-    let at_start = (goal.at.overflow_add-place-2 c).Start in
-    omega (arith, within at_start, c.number_at.ensures.1)
-
 pub slice_bounds-listed-count : goal.slice_bounds-listed-count
 slice_bounds-listed-count c =
     let at_number_at = (goal.at.slice_bounds-listed-count c).After-number_at in
@@ -83,12 +58,6 @@ copy_numbers-requires c =
     let n = ap length (listed at_number_at) in
     let k = length-set a.numbers.now a.from.at (2 * (length (part at_number_at) / 2)) in
     omega (arith, c.requires.1)
-
-pub shape_of-numbers : goal.shape_of-numbers
-shape_of-numbers c =
-    let at_number_at = (goal.at.shape_of-numbers c).After-number_at in
-    let a = c.args in
-    c.copy_numbers.auto.values ∙ length-set a.numbers.now a.from.at (2 * (length (part at_number_at) / 2))
 
 pub returns : goal.returns
 returns c =

@@ -61,11 +61,6 @@ copy_numbers-requires c =
     let n = body_counted (rule at_body_of_body) (body at_body_of_body) c.body_of-body.ensures in
     omega (arith, room at_body_of_body)
 
-pub shape_of-numbers : goal.shape_of-numbers
-shape_of-numbers c =
-    let at_body_of_body = (goal.at.shape_of-numbers c).After-body_of-body in
-    c.copy_numbers.auto.values ∙ kept at_body_of_body c.head_of-head.result.0 (length (body at_body_of_body) / 2)
-
 pub returns : goal.returns
 returns c =
     let at_body_of_body = (goal.at.returns c).After-body_of-body in

@@ -44,9 +44,6 @@ loop-k-init c =
 pub head_of-head-requires : goal.head_of-head-requires
 head_of-head-requires c = (c.requires, below (goal.at.head_of-head-requires c).In-loop-k)
 
-pub bounds-next-k : goal.bounds-next-k
-bounds-next-k c = few_here (goal.at.bounds-next-k c).In-loop-k
-
 pub loop-k-preserved : goal.loop-k-preserved
 loop-k-preserved c =
     let turn = (goal.at.loop-k-preserved c).In-loop-k in

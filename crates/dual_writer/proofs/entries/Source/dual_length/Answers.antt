@@ -42,12 +42,6 @@ module _ (c : After-unwrap_or-total) where
       ≡ c.loop-o.total + c.unwrap_or-total.result + entries_length (program turn) (count turn - (c.loop-o.o + 1)) (c.loop-o.o + 1)
   next = rw c.unwrap_or-total.ensures (entries_next (program turn) (count turn) c.loop-o.o c.loop-o.total c.loop-o-test.true c.entry_length.ensures.0)
 
-pub loop-o-init : goal.loop-o-init
-loop-o-init c =
-    let n = count (goal.at.loop-o-init c).After-judged-judged in
-    let e : n - 0 ≡ n = omega arith in
-    rw e (omega arith)
-
 pub entry_length-requires : goal.entry_length-requires
 entry_length-requires c =
     let s = c.args.self.now in

@@ -4,9 +4,6 @@ use Rattle.papers.specs.Reading.{program_in}
 use Rattle.dual_writer.proofs.EntryLaws.{entry_among, entry_rules}
 use Rattle.dual_writer.proofs.entries.Source.entry_length.Goals as goal
 
-pub is_abducible-requires : goal.is_abducible-requires
-is_abducible-requires c = c.requires.0.walked.answer
-
 pub returns-then-is_abducible : goal.returns-then-is_abducible
 returns-then-is_abducible c =
     let a = c.args in

@@ -13,16 +13,6 @@ module _ (c : In-Some) where
   is : entry_if_any (program_in c.args.self.now.file.now) c.args.o.0 ≡ entry (program_in c.args.self.now.file.now) c.args.o.0
   is = some_entry (program_in c.args.self.now.file.now) c.args.o.0 c.entry_length.ensures.0 c.in-Some.is
 
-pub write_entry-requires : goal.write_entry-requires
-write_entry-requires c =
-    let pre = c.requires in
-    (pre.0, (pre.1.0, rw (is (goal.at.write_entry-requires c).In-Some) at pre.1.1))
-
-pub returns-in-Some : goal.returns-in-Some
-returns-in-Some c =
-    let e = is (goal.at.returns-in-Some c).In-Some in
-    (rw e c.write_entry.ensures.0, rw e c.write_entry.ensures.1)
-
 pub returns-in-None : goal.returns-in-None
 unfolding encode_fields
 returns-in-None c =

@@ -49,14 +49,6 @@ module _ (c : In-loop-o) where
 pub loop-o-init : goal.loop-o-init
 loop-o-init c = (tabled_none (program (goal.at.loop-o-init c).Start) c.args.buffer.now, refl)
 
-pub slice_bounds-write_any_entry-count : goal.slice_bounds-write_any_entry-count
-slice_bounds-write_any_entry-count c =
-    omega (arith, room (goal.at.slice_bounds-write_any_entry-count c).In-loop-o, c.loop-o.invariant.1)
-
-pub slice_bounds-write_any_entry-start : goal.slice_bounds-write_any_entry-start
-slice_bounds-write_any_entry-start c =
-    omega (arith, room (goal.at.slice_bounds-write_any_entry-start c).In-loop-o, c.loop-o.invariant.1)
-
 pub write_any_entry-size-requires : goal.write_any_entry-size-requires
 write_any_entry-size-requires c =
     let at = c.loop-o in
@@ -66,9 +58,6 @@ write_any_entry-size-requires c =
     let s = c.args.self.now in
     let few = few_atoms_lem s.file.now s.contents c.requires.0.walked.answer in
     (c.requires.0, (omega (arith, c.judged-judged.ensures), omega (arith, at.invariant.1)))
-
-pub overflow_add-end : goal.overflow_add-end
-overflow_add-end c = omega (arith, room (goal.at.overflow_add-end c).In-loop-o, c.write_any_entry-size.ensures.0)
 
 pub loop-o-preserved : goal.loop-o-preserved
 loop-o-preserved c =
@@ -81,9 +70,6 @@ loop-o-preserved c =
           (tabled_more (p turn) c.args.buffer.now l.buffer l.o l.end l.invariant.0 part wrote.result written wrote.ensures.0),
       same_len_mid l.end (length l.buffer - l.end) l.buffer part wrote.auto.buffer ∙ l.invariant.1,
     )
-
-pub shape_of-buffer : goal.shape_of-buffer
-shape_of-buffer c = c.loop-o.invariant.1
 
 pub returns : goal.returns
 returns c =

@@ -117,9 +117,6 @@ loop-ahead-init c =
     let linked = rw (← c.first_of-ahead.ensures) at own in
     (entered_none (program (start heading)) c.args.self.now.chains.now.next c.args.o.0 l.result l.new.buffer _ (omega arith) linked, refl)
 
-pub body_of-body-requires : goal.body_of-body-requires
-body_of-body-requires c = (c.requires.0.walked, (of_literal (goal.at.body_of-body-requires c).In-Some).below)
-
 pub slice_bounds-write_fold-count : goal.slice_bounds-write_fold-count
 slice_bounds-write_fold-count c = omega (arith, room (goal.at.slice_bounds-write_fold-count c).In-Some)
 
@@ -144,9 +141,6 @@ write_fold-size-requires c =
 pub overflow_add-end : goal.overflow_add-end
 overflow_add-end c = omega (arith, ends (goal.at.overflow_add-end c).After-write_fold-size)
 
-pub next_of-ahead-requires : goal.next_of-ahead-requires
-next_of-ahead-requires c = few (goal.at.next_of-ahead-requires c).In-Some
-
 pub loop-ahead-smaller : goal.loop-ahead-smaller
 loop-ahead-smaller c =
     let turn = (goal.at.loop-ahead-smaller c).In-Some in
@@ -167,9 +161,6 @@ loop-ahead-preserved c =
           (entered_next _ _ _ _ _ _ _ _ l.invariant.0 (fits (heading (turn after))) fold c.in-Some.is part c.write_fold-size.result written (size after)),
       same_len_mid l.end (length l.buffer - l.end) l.buffer part c.write_fold-size.auto.buffer ∙ l.invariant.1,
     )
-
-pub shape_of-buffer : goal.shape_of-buffer
-shape_of-buffer c = c.loop-ahead.invariant.1 ∙ c.write_literal-end.auto.buffer
 
 pub returns : goal.returns
 returns c =
