@@ -1,11 +1,11 @@
 -- `dual_writer::writing::write_literal` meets its contract. The loop's invariant: the folds behind are written.
-use mathlib.Core.Path.{refl, ap, ◌∙◌}
+use mathlib.Core.Path.{refl, ◌∙◌}
 use mathlib.Core.List.{List}
 use Prim.Native.Nat.{ℕ, ◌+◌, ◌*◌, ◌≤◌}
 use native.Mathlib.Omega.{arith}
 use lib.ListN.{length, get_or}
 use Rattle.std.proofs.Common.{None}
-use Rattle.dual_writer.specs.Chains.{number_from, folds_at}
+use Rattle.dual_writer.specs.Chains.{folds_at}
 use Rattle.dual_writer.proofs.WritingLaws.{field_written, listed_none, listed_done, listed_room, listed_link, listed_next}
 use Rattle.dual_writer.proofs.writing.write_literal.Goals as goal
 use Rattle.dual_writer.proofs.writing.write_literal.Goals.{After-put_heading}
