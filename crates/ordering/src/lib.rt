@@ -92,7 +92,7 @@ fn visit_rows(
 }
 
 // The entries of the dual, each after those it depends on where there is no cycle. `starts` has the place of each
-// entry's row, `ranks` gets its rank in the order of visits.
+// entry's row, `ranks` gets its rank in the order of visits. Not one with `order_rules`: another search, other sizes, and there the ranks are of no use.
 fn order_entries(
     entries: &[u16],
     starts: &[u16],
@@ -122,7 +122,7 @@ fn order_rules(rules: &[u16], starts: &[u16], ranks: &[u16], visits: &mut [u16],
     visit_rows(&mut order, starts, &mut places, visits, count);
 }
 
-// Both: first the entries, whose ranks then order the rules.
+// Both: first the entries, whose ranks then order the rules. The counts, since what is lent may be longer than there are rows.
 pub fn order_rows(
     entries: &[u16],
     entry_starts: &[u16],

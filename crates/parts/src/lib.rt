@@ -109,7 +109,7 @@ fn mark(visit: u16, ends: bool) -> u16
     if ends { visit + MARK } else { visit }
 }
 
-// Marks the visits that a part ends with: those that no row so far reaches beyond.
+// Marks the visits that a part ends with: those that no row so far reaches beyond. The count, since more may be lent than there are visits.
 pub fn mark_parts(numbers: &[u16], kind: RowKind, visits: &mut [u16], count: usize)
     requires { (count ≤ 1280) × ((count ≤ length visits.old) × Unmarked count visits.old) }
     ensures { Parted (parity kind) count numbers.now visits.new × Marked count visits.old visits.new }
