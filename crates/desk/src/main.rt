@@ -2,7 +2,7 @@
 // explanations and prints them.
 #![tactic(auto)]
 
-ghost use Rattle.std.specs.Prelude.{◌≡◌, length};
+ghost use Rattle.std.specs.Prelude.{◌≡◌};
 ghost use Rattle.std.specs.Counts.{IsPrefixLen};
 ghost use Rattle.papers.specs.Reading.{read_papers};
 ghost use Rattle.printout.specs.Output.{desk_text};
@@ -31,14 +31,12 @@ fn read_all(file: &mut impl Read, paper: &mut [u8]) -> usize
 }
 
 // The first 65,536 bytes of a file. One that cannot be read counts as empty.
-fn read_paper(rt: &impl Files, path: &str, paper: &mut [u8]) -> usize
-    requires { length paper.old ≡ 65536 }
-    ensures { IsPrefixLen result paper.new }
-{
+fn read_paper<'a>(rt: &impl Files, path: &str, paper: &'a mut [u8; 65536]) -> &'a [u8] {
     let Ok(mut file) = File::open(rt, path) else {
-        return 0;
+        return &[];
     };
-    read_all(&mut file, paper)
+    let size = read_all(&mut file, paper);
+    &paper[..size]
 }
 
 // Hands to the system's `write` the text that document 01 has printed of these papers. The papers are lent for the contract: nothing is
@@ -50,19 +48,13 @@ fn print_text(rt: &impl Print, file: &[u8], sheet: &[u8], text: &[u8])
 }
 
 fn main(rt: HostRuntime) {
-    let mut file = [0u8; 65536];
-    let file_size = read_paper(&rt, "causes", &mut file);
-    let mut sheet = [0u8; 65536];
-    let sheet_size = read_paper(&rt, "sheet", &mut sheet);
+    let mut causes = [0u8; 65536];
+    let file = read_paper(&rt, "causes", &mut causes);
+    let mut query = [0u8; 65536];
+    let sheet = read_paper(&rt, "sheet", &mut query);
     let mut dual = [0u8; 52488];
     let mut list = [0u32; 1024];
     let mut out = [0u8; 98304];
-    let size = write_report(
-        &file[..file_size],
-        &sheet[..sheet_size],
-        &mut dual,
-        &mut list,
-        &mut out,
-    );
-    print_text(&rt, &file[..file_size], &sheet[..sheet_size], &out[..size]);
+    let size = write_report(file, sheet, &mut dual, &mut list, &mut out);
+    print_text(&rt, file, sheet, &out[..size]);
 }

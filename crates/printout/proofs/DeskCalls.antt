@@ -2,15 +2,15 @@
 use mathlib.Core.Path.{◌≡◌, refl, sym, ap, ap₂, subst, ◌∙◌}
 use mathlib.Core.Bool.{false}
 use mathlib.Core.List.{List, ◌++◌}
-use Prim.Native.Nat.{ℕ, ◌+◌, ◌-◌, ◌≤◌, ◌<◌, min}
+use Prim.Native.Nat.{ℕ, ◌+◌, ◌-◌, ◌^◌, ◌≤◌, ◌<◌, min}
 use native.Mathlib.Omega.{arith}
 use borrow.Author.Tests.{le-ltb}
 use lib.ListN.{length, take, drop, take-append-drop}
+use Rattle.std.specs.Prelude.{Result, Ok, IsOk}
 use Rattle.papers.specs.Outcome.{Outcome, accepted}
-use Rattle.papers.specs.Reading.{Papers}
+use Rattle.papers.specs.Reading.{Papers, read_papers}
 use Rattle.papers.specs.Told.{tells}
 use Rattle.dual.specs.Bytes.{dual_of}
-use Rattle.search.specs.declared.Continued.TheVariants.{Reported}
 use Rattle.trying.specs.declared.Report.{Report as CallReport}
 use Rattle.steps.specs.Explanations.{Problem, scenarios, minimals, stop, sum_below, rounds_from}
 use Rattle.steps.specs.Continuing.{Report, report_of, continue, state_by}
@@ -26,8 +26,10 @@ use Rattle.steps.proofs.Canonical.{record_at, list_at, work_at, list_at_found, l
 use Rattle.steps.proofs.Sound.{reached_unspoilt}
 use Rattle.steps.proofs.Calling.{answer_made}
 use Rattle.printout.specs.declared.searching.Progress.{Progress}
-use Rattle.printout.specs.DeskSearch.{problem_for, Stands, GoneOn}
-use Rattle.printout.proofs.PaperLaws.{Small, problem_is}
+use Rattle.printout.specs.DeskSearch.{Accepted, problem_for, problem_on, Stands, GoneOn}
+use Rattle.search.specs.declared.ContinueError.{ContinueError}
+use Rattle.search.proofs.ContinuedTold.{reported_told}
+use Rattle.printout.proofs.PaperLaws.{Small, problem_is, small, dual_few}
 
 module _ (P : Problem) (list : List ℕ) (before : Progress) (stands : Stands P list before) where
   -- Record and list are those of a search that has come to its position.
@@ -58,8 +60,8 @@ next before told = record {
 pub record Called (P : Problem) (list : List ℕ) (before : Progress) (told : CallReport) (after : List ℕ) : Type 0 where
   pub stands : Stands P after (next before told)
   pub gone : GoneOn P (length list) before (next before told)
-  pub tried_fits : before.tried + told.tried < 18446744073709551616
-  pub rounds_fit : before.rounds + told.rounds < 18446744073709551616
+  pub tried_fits : before.tried + told.tried < 2 ^ 64
+  pub rounds_fit : before.rounds + told.rounds < 2 ^ 64
 
 module _ (P : Problem) (small : Small P) (list : List ℕ) (before : Progress) (stands : Stands P list before) (m : ℕ)
     (tries : m ≡ min 4096 (stop P (length list) - before.reached.at.position)) where
@@ -125,7 +127,7 @@ module _ {read : Outcome Papers} {q : Papers} (is : read ≡ accepted q) (small 
   list_after_lem : list_continued read 4096 room before.reached list ≡ (continue (problem_of q) 4096 before.reached.at list).list
   list_after_lem = rw (is, made)
 
-  pub called : {told : CallReport} {after : List ℕ} → continued_told (Reported told) ≡ continue_told read 4096 room before.reached list
+  pub called : {told : CallReport} {after : List ℕ} → continued_told (Ok told) ≡ continue_told read 4096 room before.reached list
       → after ≡ list_continued read 4096 room before.reached list → Called (problem_for read) list before told after
   unfolding continued_told
   called {told} {after} t l =
@@ -138,3 +140,18 @@ module _ {read : Outcome Papers} {q : Papers} (is : read ≡ accepted q) (small 
       let x = subst (λ (r : CallReport). Called P list before r entries) (ap (told_report before.reached.held) (sym e) ∙ sym tells) there in
       let y = subst (λ (r : List ℕ). Called P list before told r) (ap (λ (r : Report). r.list) (sym e) ∙ sym (l ∙ list_after_lem)) x in
       subst (λ (R : Problem). Called R list before told after) (sym (problem_is is)) y
+
+-- Of accepted papers, with a buffer that is long enough for any dual.
+module _ (file sheet : List ℕ) (both : Accepted (read_papers file sheet)) (room : ℕ) (long : 52488 ≤ room) (list : List ℕ) (before : Progress)
+    (stands : Stands (problem_on file sheet) list before) where
+  enough : length (dual_of both.papers.program) ≤ room
+  enough = let few = dual_few file sheet both.is in omega arith
+
+  pub reports : (answer : Result CallReport ContinueError)
+      → continued_told answer ≡ continue_told (read_papers file sheet) 4096 room before.reached list → IsOk answer
+  reports answer told = rw (reported_told (told ∙ tells_report both.is (small file sheet both.is) room enough list before stands))
+
+  pub made_call : (answer : Result CallReport ContinueError) {report : CallReport} {after : List ℕ}
+      → continued_told answer ≡ continue_told (read_papers file sheet) 4096 room before.reached list → answer ≡ Ok report
+      → after ≡ list_continued (read_papers file sheet) 4096 room before.reached list → Called (problem_on file sheet) list before report after
+  made_call answer told is = called both.is (small file sheet both.is) room enough list before stands (ap continued_told (sym is) ∙ told)

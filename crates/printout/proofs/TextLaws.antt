@@ -4,8 +4,8 @@ use mathlib.Core.List.{List, [], ◌∷◌, ◌++◌}
 use Prim.Native.Nat.{ℕ, ◌+◌, ◌*◌, ◌^◌, ◌≤◌, ◌<◌}
 use native.Mathlib.Omega.{arith}
 use native.Mathlib.Numerals.{add-one}
-use lib.ListN.{length, get_or, take, drop, length-take, drop_of_length-le, length-append}
-use lib.Seq.{drop-cons, get_or-take, length-take-le}
+use lib.ListN.{length, get_or, take, drop, drop_of_length-le, length-append}
+use lib.Seq.{drop-cons}
 use lib.Dec.{T, ltb, ltb→lt}
 use Rattle.papers.specs.Valid.{All}
 use Rattle.papers.specs.Outcome.{Outcome, accepted}
@@ -16,10 +16,11 @@ use Rattle.steps.specs.Spoilt.{all_below}
 use Rattle.trying.specs.Trying.{problem_of}
 use Rattle.steps.proofs.Stopping.{stop_le, stop_count}
 use Rattle.steps.proofs.Sound.{minimals_below}
-use Rattle.decimals.specs.Text.{Put}
+use Rattle.decimals.specs.declared.Printer.{Printer}
+use Rattle.decimals.specs.Printing.{Printed}
 use Rattle.found_lines.specs.FoundLine.{found_line}
 use Rattle.report.specs.Lines.{heading_line, last_line}
-use Rattle.decimals.proofs.Putting.{put_two}
+use Rattle.decimals.proofs.Printing.{printed_append}
 use Rattle.found_lines.proofs.LineLengths.{found_length}
 use Rattle.printout.specs.declared.searching.Progress.{Progress}
 use Rattle.printout.specs.DeskSearch.{problem_for, Stands, last_state, Finished}
@@ -28,17 +29,15 @@ use Rattle.printout.proofs.PaperLaws.{Small, problem_is}
 
 -- ---- the found lines, one by one
 
-module _ (abducibles : List ℕ) (i found : ℕ) (list : List ℕ) where
-  pub lines_none : found ≤ i → found_lines abducibles (drop i (take found list)) ≡ []
+module _ (abducibles : List ℕ) (i : ℕ) (entries : List ℕ) where
+  pub lines_none : length entries ≤ i → found_lines abducibles (drop i entries) ≡ []
   unfolding found_lines
-  lines_none h = rw (drop_of_length-le (take found list) {i = i} (let l = length-take found list in omega arith))
+  lines_none h = rw (drop_of_length-le entries {i = i} h)
 
-  pub lines_next : i < found → found ≤ length list
-      → found_lines abducibles (drop i (take found list)) ≡ found_line (get_or list i 0) abducibles ++ found_lines abducibles (drop (i + 1) (take found list))
+  pub lines_next : i < length entries
+      → found_lines abducibles (drop i entries) ≡ found_line (get_or entries i 0) abducibles ++ found_lines abducibles (drop (i + 1) entries)
   unfolding found_lines
-  lines_next h within =
-      let l = length-take-le found list within in
-      rw (drop-cons (take found list) i 0 (omega arith), get_or-take found list i 0 h, add-one i)
+  lines_next h = rw (drop-cons entries i 0 h, add-one i)
 
 -- ---- how long they are
 
@@ -73,12 +72,12 @@ lines_few P small list s stands abducibles below short =
 
 module _ {read : Outcome Papers} {q : Papers} (is : read ≡ accepted q) {L : ℕ} {list : List ℕ} {s : Progress} (stands : Stands (problem_for read) list s)
     (finished : Finished (problem_for read) L s) where
-  pub text_put : {n k total first second third : ℕ} {abducibles out one two three : List ℕ}
+  pub text_printed : {n k total : ℕ} {abducibles : List ℕ} {p one two three : Printer}
       → q.program.atoms ≡ n → length q.program.abducibles ≡ k → 3 ^ k ≡ total → q.program.abducibles ≡ abducibles
-      → Put 0 (heading_line n k total) out first one → Put first (found_lines abducibles (take s.reached.at.found list)) one second two
-      → Put second (last_line s.state s.tried s.rounds) two third three → Put 0 (search_text q L) out third three
+      → Printed (heading_line n k total) p one → Printed (found_lines abducibles (take s.reached.at.found list)) one two
+      → Printed (last_line s.state s.tried s.rounds) two three → Printed (search_text q L) p three
   unfolding search_text
-  text_put {n = n} {k = k} {total = total} {third = third} {abducibles = abducibles} {out = out} {three = three} en ek et ea heading found last =
+  text_printed {n = n} {k = k} {total = total} {abducibles = abducibles} {p = p} {three = three} en ek et ea heading found last =
       let P = problem_of q in
       let same = problem_is is in
       let here : Stands P list s = rw same at stands in
@@ -92,7 +91,7 @@ module _ {read : Outcome Papers} {q : Papers} (is : read ≡ accepted q) {L : �
       let ending = last_line s.state s.tried s.rounds in
       let text : search_text q L ≡ heading_line n k total ++ (lines ++ ending) =
       λ i. heading_line (en i) (ek i) (count i) ++ (found_lines (ea i) (entries i) ++ last_line (state i) (tried i) (rounds i)) in
-      subst (λ (t : List ℕ). Put 0 t out third three) (sym text) (put_two (heading_line n k total) (lines ++ ending) heading (put_two lines ending found last))
+      subst (λ (t : List ℕ). Printed t p three) (sym text) (printed_append heading (printed_append found last))
 
 -- With a list of 1,024 places it is the program's.
 pub text_is : {read : Outcome Papers} {q : Papers} → read ≡ accepted q → {L : ℕ} → L ≡ 1024 → search_text q L ≡ desk_text read

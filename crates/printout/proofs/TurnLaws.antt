@@ -10,12 +10,22 @@ use lib.ListN.{length, take}
 use Rattle.held.specs.declared.SearchRecord.{SearchRecord}
 use Rattle.held.specs.Masks.{masks}
 use Rattle.held.specs.HeldCalls.{fresh_search}
+use denote.Enum.Bare.{sameb}
+use Rattle.steps.specs.contracts.State.{the_type}
+use Rattle.steps.specs.declared.State.{State}
 use Rattle.steps.specs.declared.State.TheVariants.{Going, Full, Ended}
 use Rattle.steps.specs.Explanations.{Problem, scenarios, minimals, stop, sum_below}
 use Rattle.steps.specs.Continuing.{state_by}
 use Rattle.steps.proofs.Stopping.{stop_le}
 use Rattle.printout.specs.declared.searching.Progress.{Progress}
 use Rattle.printout.specs.DeskSearch.{is_going, Stands, GoneOn, last_state, Finished}
+
+-- The test of the loop.
+pub going_is : (s : State) → sameb the_type s Going ≡ is_going s
+unfolding is_going
+going_is Going = refl
+going_is Full = refl
+going_is Ended = refl
 
 -- What is left to do: a turn more for a search that goes on.
 abbrev pub left : Problem → Progress → Bool → ℕ

@@ -3,59 +3,70 @@
 
 mod searching;
 
-ghost use Rattle.std.specs.Prelude.{◌≡◌, ◌≤◌, ◌<◌, ◌^◌, length, take};
+ghost use Rattle.std.specs.Prelude.{◌≡◌, ◌≤◌, ◌<◌, ◌^◌, length};
 ghost use Rattle.papers.specs.Field.{numbers};
 ghost use Rattle.papers.specs.Reading.{read_papers};
 ghost use Rattle.decimals.specs.Text.{Put};
+ghost use Rattle.decimals.specs.Printing.{Printed};
 ghost use Rattle.printout.specs.DeskSearch.{AcceptedAs};
 ghost use Rattle.printout.specs.Output.{found_lines, desk_text};
 
+use decimals::Printer;
 use model::scenario_count;
-use papers::{Contents, PapersRead};
+use papers::Contents;
 use searching::search_all;
 
 // The lines of the found entries.
-fn write_found_lines(
-    out: &mut [u8],
-    at: usize,
-    list: &[u32],
-    found: usize,
-    abducibles: &[u8],
-) -> usize
-    requires { (at ≤ 512) × ((found ≤ length list.now) × ((found ≤ 1024) × (length abducibles.now ≤ 32))) }
-    ensures { Put at (found_lines (numbers abducibles.now) (take found list.now)) out.old result out.new
-        × (result < 2 ^ 32) }
+fn write_found_lines(page: &mut Printer, entries: &[u32], abducibles: &[u8])
+    requires { (page.old.at ≤ 512) × ((length entries.now ≤ 1024) × (length abducibles.now ≤ 32)) }
+    ensures lines { Printed (found_lines (numbers abducibles.now) entries.now) page.old page.new }
+    ensures short { page.new.at < 2 ^ 32 }
 {
-    let mut end = at;
-    let mut i: usize = 0;
-    while i < found {
-        end = found_lines::write_found(out, end, list[i], abducibles);
-        i += 1;
+    for &entry in entries {
+        found_lines::write_found(page, entry, abducibles);
     }
-    end
 }
 
 // Both papers are accepted.
 fn write_accepted(
+    page: &mut Printer,
     file: &[u8],
     sheet: &[u8],
     contents: Contents,
     dual: &mut [u8],
     list: &mut [u32],
-    out: &mut [u8],
-) -> usize
-    requires { AcceptedAs (read_papers file.now sheet.now) contents × ((52488 ≤ length dual.old) × (length list.old ≡ 1024)) }
-    ensures { Put 0 (desk_text (read_papers file.now sheet.now)) out.old result out.new × (result ≤ 98304) }
+)
+    requires accepted { AcceptedAs (read_papers file.now sheet.now) contents }
+    requires room { (52488 ≤ length dual.old) × (length list.old ≡ 1024) }
+    requires start { page.old.at ≡ 0 }
+    ensures text { Printed (desk_text (read_papers file.now sheet.now)) page.old page.new }
+    ensures short { page.new.at ≤ 98304 }
 {
     let count = contents.abducibles;
-    let total = scenario_count(count);
-    let end = 12 + 2 * count;
+    let abducibles = &file[12..12 + 2 * count];
     let progress = search_all(file, sheet, dual, list);
-    let reached = progress.reached.at;
-    let state = progress.state;
-    let first = report::write_heading(out, 0, contents.atoms as u64, count as u64, total as u64);
-    let second = write_found_lines(out, first, list, reached.found as usize, &file[12..end]);
-    report::write_last(out, second, state, progress.tried, progress.rounds)
+    let found = progress.reached.at.found as usize;
+    let total = scenario_count(count);
+    report::write_heading(
+        page,
+        u64::from(contents.atoms),
+        count as u64,
+        u64::from(total),
+    );
+    write_found_lines(page, &list[..found], abducibles);
+    report::write_last(page, progress.state, progress.tried, progress.rounds);
+}
+
+fn write_text(page: &mut Printer, file: &[u8], sheet: &[u8], dual: &mut [u8], list: &mut [u32])
+    requires room { (52488 ≤ length dual.old) × (length list.old ≡ 1024) }
+    requires start { page.old.at ≡ 0 }
+    ensures text { Printed (desk_text (read_papers file.now sheet.now)) page.old page.new }
+    ensures short { page.new.at ≤ 98304 }
+{
+    match reading::read_papers(file, sheet) {
+        Ok((contents, _)) => write_accepted(page, file, sheet, contents, dual, list),
+        Err(refusal) => report::write_refused(page, refusal),
+    }
 }
 
 pub fn write_report(
@@ -68,12 +79,7 @@ pub fn write_report(
     requires { (52488 ≤ length dual.old) × (length list.old ≡ 1024) }
     ensures { Put 0 (desk_text (read_papers file.now sheet.now)) out.old result out.new × (result ≤ 98304) }
 {
-    let read = reading::read_papers(file, sheet);
-    let PapersRead::Accepted(contents, _) = read else {
-        let PapersRead::Refused(refusal) = read else {
-            return 0;
-        };
-        return report::write_refused(out, 0, refusal);
-    };
-    write_accepted(file, sheet, contents, dual, list, out)
+    let mut page = Printer::new(out);
+    write_text(&mut page, file, sheet, dual, list);
+    page.place()
 }
