@@ -1,10 +1,9 @@
 -- The folds of an objective literal, as a chain through a table of what comes next.
 use Rattle.std.specs.Prelude.{List, [], ◌∷◌, ℕ, zero, suc, ◌<◌, get_or, Option, Some, None}
 use Rattle.literals.specs.declared.Fold.{Fold}
-use Rattle.papers.specs.declared.Contents.{Contents}
+use Rattle.folds.specs.declared.RuleFile.{RuleFile}
 use Rattle.papers.specs.Program.{Program}
 use Rattle.papers.specs.Reading.{program_in}
-use Rattle.papers.specs.Places.{Walked}
 use Rattle.dual.specs.Table.{folds_of}
 use Rattle.dual_writer.specs.declared.chains.Chains.{Chains}
 
@@ -32,7 +31,6 @@ folds_at next ahead = followed 1280 next ahead
 pub record ChainsOf (p : Program) (first next : List (Option Fold)) : Type 0 where
   pub at : (o : ℕ) → o < 513 → Chain next (get_or first o None) (folds_of p o)
 
--- An accepted file with the places of its folds, and its chains.
-pub record Chained (file : List ℕ) (contents : Contents) (places : List ℕ) (tables : Chains) : Type 0 where
-  pub walked : Walked file contents places
-  pub chains : ChainsOf (program_in file) tables.first tables.next
+-- The chains of an accepted file.
+pub record Chained (file : RuleFile) (tables : Chains) : Type 0 where
+  pub chains : ChainsOf (program_in file.bytes.now) tables.first tables.next

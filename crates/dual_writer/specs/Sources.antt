@@ -2,6 +2,6 @@
 use Rattle.dual_writer.specs.declared.entries.Source.{Source}
 use Rattle.dual_writer.specs.Chains.{Chained}
 
--- The places are those of its folds, and the chains have these.
+-- The chains have its folds.
 abbrev pub Stands : Source → Type 0
-Stands s = Chained s.file.now s.contents s.places.now s.chains.now
+Stands s = Chained s.file.now s.chains.now

@@ -2,11 +2,10 @@
 // no literal asks for a pass of its own.
 ghost use Rattle.std.specs.Prelude.{◌≡◌, ◌≤◌, ◌<◌, get_or, length, None};
 ghost use Rattle.papers.specs.Reading.{program_in};
-ghost use Rattle.papers.specs.Places.{Walked};
 ghost use Rattle.dual_writer.specs.Chains.{Chain, ChainsOf, folds_at};
 
+use folds::RuleFile;
 use literals::{Fold, Objective};
-use papers::Contents;
 
 // For each objective literal its first fold, for each fold the next of the same head.
 #[derive(Drop)]
@@ -17,15 +16,14 @@ pub(crate) struct Chains {
 
 impl Chains {
     // From the last rule to the first, so that each chain rises.
-    pub(crate) fn of(file: &[u8], contents: Contents, places: &[usize; 1280]) -> Chains
-        requires { Walked file.now contents places.now }
-        ensures { ChainsOf (program_in file.now) result.first result.next }
+    pub(crate) fn of(file: &RuleFile) -> Chains
+        ensures { ChainsOf (program_in file.now.bytes.now) result.first result.next }
     {
         let mut first = [None; 513];
         let mut next = [None; 1280];
-        for k in (0..contents.rules.count + contents.integrity.count).rev() {
+        for k in (0..file.fold_count()).rev() {
             let fold = Fold(k);
-            let head = folds::head_of(file, contents, places, fold);
+            let head = file.head_of(fold);
             let at = head.0;
             next[k] = first[at];
             first[at] = Some(fold);

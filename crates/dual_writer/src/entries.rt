@@ -3,9 +3,7 @@ ghost use Rattle.std.specs.Prelude.{◌≡◌, cond, ◌+◌, ◌*◌, ◌<◌, 
 ghost use Rattle.papers.specs.Program.{all_rules};
 ghost use Rattle.literals.specs.Numbering.{atom_number};
 ghost use Rattle.papers.specs.Content.{is_among};
-ghost use Rattle.papers.specs.Reading.{read_file, program_in};
-ghost use Rattle.papers.specs.Answers.{contents_of};
-ghost use Rattle.papers.specs.Told.{tells, read_told};
+ghost use Rattle.papers.specs.Reading.{program_in};
 ghost use Rattle.dual.specs.Table.{has_entry, is_fact, entry, entry_if_any, dual};
 ghost use Rattle.dual.specs.TableEncoding.{encode_fields};
 ghost use Rattle.dual.specs.Bytes.{Fills};
@@ -14,26 +12,23 @@ ghost use Rattle.dual_writer.specs.Sources.{Stands};
 
 use crate::chains::Chains;
 use crate::writing::{write_fold, write_literal};
+use folds::RuleFile;
 use literals::Objective;
-use papers::Contents;
 
-// An accepted file, with the places of its folds and their chains.
+// An accepted file, with the chains of its folds.
 #[derive(Clone, Copy)]
 pub(crate) struct Source<'a> {
-    pub(crate) file: &'a [u8],
-    pub(crate) contents: Contents,
-    pub(crate) places: &'a [usize; 1280],
+    pub(crate) file: &'a RuleFile<'a>,
     pub(crate) chains: &'a Chains,
 }
 
 // Whether it is an abducible atom or its negation. Falsum is of no atom.
-fn is_abducible(file: &[u8], contents: Contents, o: Objective) -> bool
-    requires { read_told contents_of (read_file file.now) ≡ tells contents }
-    ensures { result ≡ is_among (program_in file.now).abducibles (atom_number o.0) }
+fn is_abducible(file: &RuleFile, o: Objective) -> bool
+    ensures { result ≡ is_among (program_in file.now.bytes.now).abducibles (atom_number o.0) }
 {
-    let end = 12 + 2 * contents.abducibles;
-    match conjugates::atom_of(o, contents.atoms) {
-        Some(atom) => content::is_among(&file[12..end], atom),
+    let end = 12 + 2 * file.contents.abducibles;
+    match conjugates::atom_of(o, file.contents.atoms) {
+        Some(atom) => content::is_among(&file.bytes[12..end], atom),
         None => false,
     }
 }
@@ -43,13 +38,13 @@ impl<'a> Source<'a> {
     fn rules_length(&self, o: Objective) -> Option<usize>
         requires { Stands self.now × (o.0 < 513) }
         ensures { (result
-            ≡ cond (is_fact (all_rules (program_in self.now.file.now)) o.0) None (Some (5 + rules_length (all_rules (program_in self.now.file.now)) o.0)))
+            ≡ cond (is_fact (all_rules (program_in self.now.file.now.bytes.now)) o.0) None (Some (5 + rules_length (all_rules (program_in self.now.file.now.bytes.now)) o.0)))
             × IfSome result (λ size. size < 65536) }
     {
         let mut total: usize = 5;
         let mut ahead = self.chains.first_of(o);
         while let Some(fold) = ahead {
-            let body = folds::body_of(self.file, self.contents, self.places, fold);
+            let body = self.file.body_of(fold);
             if body.is_empty() {
                 return None;
             }
@@ -62,10 +57,10 @@ impl<'a> Source<'a> {
     // The bytes of an objective literal's entry, if it has one.
     fn entry_length(&self, o: Objective) -> Option<usize>
         requires { Stands self.now × (o.0 < 513) }
-        ensures { (result ≡ cond (has_entry (program_in self.now.file.now) o.0) (Some (5 + rules_length (all_rules (program_in self.now.file.now)) o.0)) None)
+        ensures { (result ≡ cond (has_entry (program_in self.now.file.now.bytes.now) o.0) (Some (5 + rules_length (all_rules (program_in self.now.file.now.bytes.now)) o.0)) None)
             × IfSome result (λ size. size < 65536) }
     {
-        if is_abducible(self.file, self.contents, o) {
+        if is_abducible(self.file, o) {
             return None;
         }
         self.rules_length(o)
@@ -74,9 +69,9 @@ impl<'a> Source<'a> {
     // The length of the dual.
     pub(crate) fn dual_length(&self) -> usize
         requires { Stands self.now }
-        ensures { result ≡ dual_length (program_in self.now.file.now) }
+        ensures { result ≡ dual_length (program_in self.now.file.now.bytes.now) }
     {
-        let judged = literals::judged(self.contents.atoms);
+        let judged = literals::judged(self.file.contents.atoms);
         let mut total: usize = 0;
         for o in 0..judged {
             total += self.entry_length(Objective(o)).unwrap_or(0);
@@ -88,13 +83,13 @@ impl<'a> Source<'a> {
     // begins where the one before ended.
     fn write_entry(&self, buffer: &mut [u8], o: Objective) -> usize
         requires { Stands self.now × ((o.0 < 513)
-            × (length (encode_fields (entry (program_in self.now.file.now) o.0)) ≤ length buffer.old)) }
-        ensures { Fills (encode_fields (entry (program_in self.now.file.now) o.0)) buffer.old result buffer.new }
+            × (length (encode_fields (entry (program_in self.now.file.now.bytes.now) o.0)) ≤ length buffer.old)) }
+        ensures { Fills (encode_fields (entry (program_in self.now.file.now.bytes.now) o.0)) buffer.old result buffer.new }
     {
         let mut end = write_literal(buffer, self.chains, o);
         let mut ahead = self.chains.first_of(o);
         while let Some(fold) = ahead {
-            let body = folds::body_of(self.file, self.contents, self.places, fold);
+            let body = self.file.body_of(fold);
             let size = write_fold(&mut buffer[end..], fold, body);
             end += size;
             ahead = self.chains.next_of(fold);
@@ -105,8 +100,8 @@ impl<'a> Source<'a> {
     // The same where it has an entry, and nothing where it has none.
     fn write_any_entry(&self, buffer: &mut [u8], o: Objective) -> usize
         requires { Stands self.now × ((o.0 < 513)
-            × (length (encode_fields (entry_if_any (program_in self.now.file.now) o.0)) ≤ length buffer.old)) }
-        ensures { Fills (encode_fields (entry_if_any (program_in self.now.file.now) o.0)) buffer.old result buffer.new }
+            × (length (encode_fields (entry_if_any (program_in self.now.file.now.bytes.now) o.0)) ≤ length buffer.old)) }
+        ensures { Fills (encode_fields (entry_if_any (program_in self.now.file.now.bytes.now) o.0)) buffer.old result buffer.new }
     {
         match self.entry_length(o) {
             Some(_) => self.write_entry(buffer, o),
@@ -116,10 +111,10 @@ impl<'a> Source<'a> {
 
     // The entries of all objective literals, falsum's last.
     pub(crate) fn write_entries(&self, buffer: &mut [u8]) -> usize
-        requires { Stands self.now × (dual_length (program_in self.now.file.now) ≤ length buffer.old) }
-        ensures { Fills (encode_fields (dual (program_in self.now.file.now))) buffer.old result buffer.new }
+        requires { Stands self.now × (dual_length (program_in self.now.file.now.bytes.now) ≤ length buffer.old) }
+        ensures { Fills (encode_fields (dual (program_in self.now.file.now.bytes.now))) buffer.old result buffer.new }
     {
-        let judged = literals::judged(self.contents.atoms);
+        let judged = literals::judged(self.file.contents.atoms);
         let mut end: usize = 0;
         for o in 0..judged {
             let size = self.write_any_entry(&mut buffer[end..], Objective(o));

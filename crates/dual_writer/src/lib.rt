@@ -7,14 +7,14 @@ mod writing;
 
 ghost use Rattle.std.specs.Prelude.{◌≡◌, cond, length};
 ghost use Rattle.papers.specs.Reading.{read_file};
-ghost use Rattle.papers.specs.Places.{Walked};
 ghost use Rattle.dual_writer.specs.declared.DualError.TheVariants.{Refused};
 ghost use Rattle.dual_writer.specs.WrittenDual.{written_told, dual_told, dual_after};
 
 use chains::Chains;
 use entries::Source;
 use field_writer::write_end;
-use papers::{Contents, Refusal};
+use folds::RuleFile;
+use papers::Refusal;
 
 // Why no dual is written: document 01's refusal 11, or one of the file's.
 #[derive(Clone, Copy, PartialEq, Eq, Debug)]
@@ -32,22 +32,13 @@ impl From<Refusal> for DualError {
 }
 
 // The dual's length. The dual of a file that was read already goes into a buffer that stays as it is where `allowed` is false.
-pub fn write_accepted(
-    file: &[u8],
-    contents: Contents,
-    places: &[usize; 1280],
-    dual: &mut [u8],
-    allowed: bool,
-) -> Result<usize, DualError>
-    requires { Walked file.now contents places.now }
-    ensures { (written_told result ≡ dual_told (read_file file.now) (length dual.old))
-        × (dual.new ≡ cond allowed (dual_after (read_file file.now) dual.old) dual.old) }
+pub fn write_accepted(file: &RuleFile, dual: &mut [u8], allowed: bool) -> Result<usize, DualError>
+    ensures { (written_told result ≡ dual_told (read_file file.now.bytes.now) (length dual.old))
+        × (dual.new ≡ cond allowed (dual_after (read_file file.now.bytes.now) dual.old) dual.old) }
 {
-    let chains = Chains::of(file, contents, places);
+    let chains = Chains::of(file);
     let source = Source {
         file,
-        contents,
-        places,
         chains: &chains,
     };
     let size = source.dual_length();
@@ -67,6 +58,5 @@ pub fn write_dual(file: &[u8], dual: &mut [u8]) -> Result<usize, DualError>
         × (dual.new ≡ dual_after (read_file file.now) dual.old) }
 {
     let contents = reading::read_file(file)?;
-    let places = folds::fold_places(file, contents);
-    write_accepted(file, contents, &places, dual, true)
+    write_accepted(&RuleFile::new(file, contents), dual, true)
 }

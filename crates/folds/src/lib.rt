@@ -2,7 +2,8 @@
 // parts of the file.
 #![tactic(auto)]
 
-ghost use Rattle.std.specs.Prelude.{◌≡◌, ◌+◌, ◌<◌, length, drop};
+ghost use Rattle.std.specs.Prelude.{◌≡◌, ℕ, ◌+◌, ◌<◌, get_or, length, drop};
+ghost use Rattle.std.proofs.Props.{props};
 ghost use Rattle.papers.specs.Program.{all_rules, rule_at};
 ghost use Rattle.papers.specs.Field.{size_of};
 ghost use Rattle.papers.specs.Reading.{read_file, program_in};
@@ -23,7 +24,7 @@ fn field_end(file: &[u8], place: usize) -> usize
 }
 
 // Where the field of each fold stands, and 0 past the last: there are at most 1,280.
-pub fn fold_places(file: &[u8], contents: Contents) -> [usize; 1280]
+fn fold_places(file: &[u8], contents: Contents) -> [usize; 1280]
     requires { read_told contents_of (read_file file.now) ≡ tells contents }
     ensures { Walked file.now contents result }
 {
@@ -37,33 +38,59 @@ pub fn fold_places(file: &[u8], contents: Contents) -> [usize; 1280]
     places
 }
 
-// The head of the rule with this fold number; falsum's where it is an integrity rule.
-pub fn head_of(file: &[u8], contents: Contents, places: &[usize; 1280], fold: Fold) -> Objective
-    requires { Walked file.now contents places.now × (fold.0 < length (all_rules (program_in file.now))) }
-    ensures { (result.0 ≡ (rule_at (program_in file.now) fold.0).head) × (result.0 < 513) }
-{
-    if fold.0 < contents.rules.count {
-        objective_at(file, places[fold.0] + 3)
-    } else {
-        literals::falsum(contents.atoms)
-    }
+// An accepted file: its bytes, its counts and places, and where the field of each of its folds stands.
+#[derive(Drop)]
+pub struct RuleFile<'a> {
+    pub bytes: &'a [u8],
+    pub contents: Contents,
+    pub places: [usize; 1280],
+    pub ghost fits: { (i : ℕ) → get_or bytes.now i 0 < 256 },
+    pub ghost walked: { Walked bytes.now contents places } by { Prim.hlevel props },
 }
 
-// The body of the rule with this fold number, as a part of the file.
-pub fn body_of<'a, 'b>(
-    file: &'a [u8],
-    contents: Contents,
-    places: &'b [usize; 1280],
-    fold: Fold,
-) -> &'a [u8]
-    requires { Walked file.now contents places.now × (fold.0 < length (all_rules (program_in file.now))) }
-    ensures { BodyOf (rule_at (program_in file.now) fold.0) result.now }
-{
-    let place = places[fold.0];
-    let end = field_end(file, place);
-    if fold.0 < contents.rules.count {
-        &file[place + 5..end]
-    } else {
-        &file[place + 3..end]
+impl<'a> RuleFile<'a> {
+    pub fn new(bytes: &'a [u8], contents: Contents) -> RuleFile<'a>
+        requires { read_told contents_of (read_file bytes.now) ≡ tells contents }
+        ensures { (result.bytes.now ≡ bytes.now) × (result.contents ≡ contents) }
+    {
+        let places = fold_places(bytes, contents);
+        RuleFile {
+            bytes,
+            contents,
+            places,
+        }
+    }
+
+    // How many folds there are.
+    pub fn fold_count(&self) -> usize
+        ensures { result ≡ length (all_rules (program_in self.now.bytes.now)) }
+    {
+        self.contents.rules.count + self.contents.integrity.count
+    }
+
+    // The head of the rule with this fold number; falsum's where it is an integrity rule.
+    pub fn head_of(&self, fold: Fold) -> Objective
+        requires { fold.0 < length (all_rules (program_in self.now.bytes.now)) }
+        ensures { (result.0 ≡ (rule_at (program_in self.now.bytes.now) fold.0).head) × (result.0 < 513) }
+    {
+        if fold.0 < self.contents.rules.count {
+            objective_at(self.bytes, self.places[fold.0] + 3)
+        } else {
+            literals::falsum(self.contents.atoms)
+        }
+    }
+
+    // The body of the rule with this fold number, as a part of the file.
+    pub fn body_of(&self, fold: Fold) -> &'a [u8]
+        requires { fold.0 < length (all_rules (program_in self.now.bytes.now)) }
+        ensures { BodyOf (rule_at (program_in self.now.bytes.now) fold.0) result.now }
+    {
+        let place = self.places[fold.0];
+        let end = field_end(self.bytes, place);
+        if fold.0 < self.contents.rules.count {
+            &self.bytes[place + 5..end]
+        } else {
+            &self.bytes[place + 3..end]
+        }
     }
 }

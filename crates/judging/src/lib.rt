@@ -7,6 +7,7 @@ ghost use Rattle.judging.specs.declared.JudgeError.TheVariants.{Refused};
 ghost use Rattle.judging.specs.Judging.{judge_error, Judges};
 
 use dual_writer::{DualError, write_accepted};
+use folds::RuleFile;
 use model::scenario_count;
 use papers::Refusal;
 pub use valuation::Verdict;
@@ -54,8 +55,8 @@ pub fn judge(
     let (contents, literals) = reading::read_papers(file, sheet)?;
     let room = literals::judged(contents.atoms) <= model.len();
     let listed = scenario < scenario_count(contents.abducibles);
-    let places = folds::fold_places(file, contents);
-    write_accepted(file, contents, &places, dual, room && listed)?;
+    let accepted = RuleFile::new(file, contents);
+    write_accepted(&accepted, dual, room && listed)?;
     if !room {
         return Err(JudgeError::ShortModel);
     }
@@ -63,9 +64,7 @@ pub fn judge(
         return Err(JudgeError::NoScenario);
     }
     let papers = AcceptedPapers {
-        file,
-        contents,
-        places: &places,
+        file: &accepted,
         dual,
         query: &sheet[3..3 + 2 * literals],
     };

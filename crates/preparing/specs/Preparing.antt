@@ -1,22 +1,20 @@
 -- What preparing a call takes and leaves.
 use Rattle.std.specs.Prelude.{◌≡◌, List, ℕ, ◌≤◌, length}
 use Rattle.literals.specs.Numbering.{judged}
-use Rattle.papers.specs.declared.Contents.{Contents}
+use Rattle.folds.specs.declared.RuleFile.{RuleFile}
 use Rattle.papers.specs.Program.{Program, Query, all_rules}
 use Rattle.papers.specs.Valid.{ValidQuery}
 use Rattle.papers.specs.Reading.{program_in}
 use Rattle.papers.specs.Field.{numbers}
-use Rattle.papers.specs.Places.{Walked}
 use Rattle.dual.specs.Bytes.{filled}
 use Rattle.rows.specs.DualBytes.{DualStarts}
 use Rattle.rows.specs.Rows.{PreparedRules, PreparedEntries}
 use Rattle.preparing.specs.declared.Counts.{Counts}
 
--- Accepted papers with the places of their folds, the dual in its buffer, and the query as a part of the sheet.
-pub record PapersStand (file : List ℕ) (contents : Contents) (places dual query : List ℕ) : Type 0 where
-  pub walked : Walked file contents places
-  pub starts : DualStarts (program_in file) dual
-  pub asked : ValidQuery (program_in file).atoms (numbers query)
+-- Accepted papers: the file with the places of its folds, the dual in its buffer, and the query as a part of the sheet.
+pub record PapersStand (file : RuleFile) (dual query : List ℕ) : Type 0 where
+  pub starts : DualStarts (program_in file.bytes.now) dual
+  pub asked : ValidQuery (program_in file.bytes.now).atoms (numbers query)
 
 -- Arrays in which the numbers of any such papers find room.
 pub record Room (rules rule-visits entries entry-visits asked : List ℕ) : Type 0 where

@@ -4,8 +4,8 @@
 ghost use Rattle.preparing.specs.Preparing.{PapersStand, Room, Prepares};
 
 use copying::copy_numbers;
+use folds::RuleFile;
 use ordering::order_rows;
-use papers::Contents;
 use parts::{RowKind, mark_parts};
 use rows::entries::decode_dual;
 use rows::rules::decode_rules;
@@ -21,9 +21,7 @@ pub struct Counts {
 // All three, and both orders with their parts: a rule asks for an o of its body, an entry for the o of a not(o) that it lists.
 // Five slices, since any of these lengths or longer ones will do (`Room`): a struct of arrays would fix the lengths.
 pub fn prepare(
-    file: &[u8],
-    contents: Contents,
-    places: &[usize; 1280],
+    file: &RuleFile,
     dual: &[u8],
     query: &[u8],
     rules: &mut [u16],
@@ -32,18 +30,18 @@ pub fn prepare(
     entry_visits: &mut [u16],
     asked: &mut [u16],
 ) -> Counts
-    requires { PapersStand file.now contents places.now dual.now query.now
+    requires { PapersStand file.now dual.now query.now
         × Room rules.old rule_visits.old entries.old entry_visits.old asked.old }
-    ensures { Prepares file.now query.now rules.old rules.new
+    ensures { Prepares file.now.bytes.now query.now rules.old rules.new
         rule_visits.old rule_visits.new entries.old entries.new
         entry_visits.old entry_visits.new asked.old asked.new result }
 {
-    let judged = literals::judged(contents.atoms);
-    let count = contents.rules.count + contents.integrity.count;
+    let judged = literals::judged(file.contents.atoms);
+    let count = file.fold_count();
     let mut rule_starts = [0u16; 1280];
     let mut entry_starts = [0u16; 513];
-    decode_rules(file, contents, places, rules, &mut rule_starts);
-    decode_dual(file, dual, judged, entries, &mut entry_starts);
+    decode_rules(file, rules, &mut rule_starts);
+    decode_dual(file.bytes, dual, judged, entries, &mut entry_starts);
     order_rows(
         entries,
         &entry_starts,

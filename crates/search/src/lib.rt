@@ -7,7 +7,8 @@ ghost use Rattle.papers.specs.Told.{tells, read_told, papers_of};
 ghost use Rattle.search.specs.declared.ContinueError.TheVariants.{Refused};
 ghost use Rattle.search.specs.Searching.{Answers, dual_error};
 
-use dual_writer::DualError;
+use dual_writer::{DualError, write_accepted};
+use folds::RuleFile;
 use held::{SearchRecord, is_spoilt_search};
 use model::scenario_count;
 use papers::{Contents, Refusal};
@@ -58,16 +59,14 @@ fn continue_accepted(
 {
     let total = scenario_count(contents.abducibles);
     let spoilt = is_spoilt_search(list, from, contents.abducibles, total);
-    let places = folds::fold_places(file, contents);
-    dual_writer::write_accepted(file, contents, &places, dual, !spoilt)?;
+    let accepted = RuleFile::new(file, contents);
+    write_accepted(&accepted, dual, !spoilt)?;
     if spoilt {
         return Err(ContinueError::SpoiltSearch);
     }
     let end = 3 + 2 * literals;
     let papers = AcceptedPapers {
-        file,
-        contents,
-        places: &places,
+        file: &accepted,
         dual,
         query: &sheet[3..end],
     };

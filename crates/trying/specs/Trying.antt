@@ -83,7 +83,7 @@ pub record Ready (s : Search) (count : ℕ) (before : Progress) (list : List ℕ
 -- Papers that can be judged, and a record and a list that pass test 14.
 pub record Passed (papers : AcceptedPapers) (total : ℕ) (from : SearchRecord) (list : List ℕ) : Type 0 where
   pub prepared : Stands papers
-  pub scenarios : total ≡ 3 ^ length (program_in papers.file.now).abducibles
+  pub scenarios : total ≡ 3 ^ length (program_in papers.file.now.bytes.now).abducibles
   pub unspoilt : spoilt_by total from.at list ≡ false
 
 -- What continuing with the held faults leaves: the report and the list, by its definition.

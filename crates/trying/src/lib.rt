@@ -192,7 +192,7 @@ pub fn search_accepted(
     allowance: u32,
 ) -> Report
     requires { Passed papers.now total from list.old }
-    ensures { Continues (problem_in papers.now.file.now (numbers papers.now.query.now)) allowance from list.old result list.new }
+    ensures { Continues (problem_in papers.now.file.now.bytes.now (numbers papers.now.query.now)) allowance from list.old result list.new }
 {
     let before = untried(from.at);
     if allowance == 0 {

@@ -43,10 +43,10 @@ fn judge_decoded(papers: &AskedFile, scenario: u32, model: &mut [u8]) -> Verdict
 
 // Over accepted papers, with the dual in its buffer and room for the model.
 pub fn judge_accepted(papers: &AcceptedPapers, scenario: u32, model: &mut [u8]) -> Verdict
-    requires { Stands papers.now × (judged (program_in papers.now.file.now).atoms ≤ length model.old) }
-    ensures { (result.explains ≡ explains (program_in papers.now.file.now) (numbers papers.now.query.now) scenario)
-        × (result.rounds ≡ rounds (program_in papers.now.file.now) scenario)
-        × (model.new ≡ filled (model_bytes (program_in papers.now.file.now) scenario) model.old) }
+    requires { Stands papers.now × (judged (program_in papers.now.file.now.bytes.now).atoms ≤ length model.old) }
+    ensures { (result.explains ≡ explains (program_in papers.now.file.now.bytes.now) (numbers papers.now.query.now) scenario)
+        × (result.rounds ≡ rounds (program_in papers.now.file.now.bytes.now) scenario)
+        × (model.new ≡ filled (model_bytes (program_in papers.now.file.now.bytes.now) scenario) model.old) }
 {
     let mut room = Room::CLEAR;
     judge_decoded(&room.decode(papers), scenario, model)

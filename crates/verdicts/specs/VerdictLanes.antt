@@ -16,7 +16,7 @@ use Rattle.verdicts.specs.declared.AskedFile.{AskedFile}
 
 -- The file is accepted, its dual stands in its buffer, and the query is one that it allows.
 abbrev pub Stands : AcceptedPapers → Type 0
-Stands a = PapersStand a.file.now a.contents a.places.now a.dual.now a.query.now
+Stands a = PapersStand a.file.now a.dual.now a.query.now
 
 -- Accepted papers decoded: the rules and the dual of the file and the query of the sheet as numbers.
 pub record DecodedPapers (a : AskedFile) : Type 0 where

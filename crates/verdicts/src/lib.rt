@@ -8,8 +8,8 @@ ghost use Rattle.papers.specs.Reading.{program_in};
 ghost use Rattle.lanes.specs.Words.{Literals};
 ghost use Rattle.verdicts.specs.VerdictLanes.{Stands, DecodedPapers, BothLanes, ExplainedWord, VerdictLanes};
 
+use folds::RuleFile;
 use lanes::words::body_word;
-use papers::Contents;
 use preparing::prepare;
 use settling::{DecodedFile, Words};
 
@@ -47,9 +47,7 @@ pub struct Verdicts {
 // Accepted papers: a file with where its folds stand, the dual in its buffer, and the bytes of the query.
 #[derive(Clone, Copy)]
 pub struct AcceptedPapers<'a> {
-    pub file: &'a [u8],
-    pub contents: Contents,
-    pub places: &'a [usize; 1280],
+    pub file: &'a RuleFile<'a>,
     pub dual: &'a [u8],
     pub query: &'a [u8],
 }
@@ -76,13 +74,11 @@ impl Room {
     // The papers decoded into the room.
     pub fn decode<'a, 'b: 'a>(&'a mut self, papers: &AcceptedPapers<'b>) -> AskedFile<'a>
         requires { Stands papers.now }
-        ensures { DecodedPapers result × (result.decoded.file.now ≡ papers.now.file.now)
-            × (result.decoded.contents ≡ papers.now.contents) × (result.query.now ≡ numbers papers.now.query.now) }
+        ensures { DecodedPapers result × (result.decoded.file.now ≡ papers.now.file.now.bytes.now)
+            × (result.decoded.contents ≡ papers.now.file.now.contents) × (result.query.now ≡ numbers papers.now.query.now) }
     {
         let counts = prepare(
             papers.file,
-            papers.contents,
-            papers.places,
             papers.dual,
             papers.query,
             &mut self.rules,
@@ -93,8 +89,8 @@ impl Room {
         );
         AskedFile {
             decoded: DecodedFile {
-                file: papers.file,
-                contents: papers.contents,
+                file: papers.file.bytes,
+                contents: papers.file.contents,
                 rules: &self.rules,
                 rule_visits: &self.rule_visits[..counts.folds],
                 entries: &self.entries,

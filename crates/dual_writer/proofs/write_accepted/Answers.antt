@@ -18,15 +18,15 @@ use Rattle.dual_writer.proofs.write_accepted.Goals.{After-of-chains, After-write
 
 module _ (c : Start) where
   abbrev program : Program
-  program = program_in c.args.file.now
+  program = program_in c.args.file.now.bytes.now
 
-  read : read_file c.args.file.now ≡ accepted program
-  read = (told c.args.file.now c.args.contents c.requires.answer).is
+  read : read_file c.args.file.now.bytes.now ≡ accepted program
+  read = let file = c.args.file.now in (told file.bytes.now file.contents file.walked.answer).is
 
 -- ---- once the folds are chained
 
-linked : (c : After-of-chains) → Chained c.args.file.now c.args.contents c.args.places.now c.of-chains.result
-linked c = record { walked = c.requires; chains = c.of-chains.ensures }
+linked : (c : After-of-chains) → Chained c.args.file.now c.of-chains.result
+linked c = record { chains = c.of-chains.ensures }
 
 -- ---- once the entries are written
 
@@ -41,13 +41,13 @@ pub returns-then-dual-size : goal.returns-then-dual-size
 returns-then-dual-size c =
     let start = (goal.at.returns-then-dual-size c).Start in
     let a = c.args in
-    dual_short a.file.now a.dual.now (program start) (read start) c.dual_length-size.ensures a.allowed c.if-dual-size.true
+    dual_short a.file.now.bytes.now a.dual.now (program start) (read start) c.dual_length-size.ensures a.allowed c.if-dual-size.true
 
 pub returns-then-not-allowed : goal.returns-then-not-allowed
 returns-then-not-allowed c =
     let start = (goal.at.returns-then-not-allowed c).Start in
     let a = c.args in
-    let size = dual_length_is a.file.now a.dual.now (program start) (read start) c.dual_length-size.ensures c.if-dual-size.false in
+    let size = dual_length_is a.file.now.bytes.now a.dual.now (program start) (read start) c.dual_length-size.ensures c.if-dual-size.false in
     (size, rw (c.if-not-allowed.true))
 
 pub write_end-requires : goal.write_end-requires
@@ -68,6 +68,6 @@ returns c =
     let end = rw (to_end w.result w.new.buffer) at ended.ensures in
     let whole = end_written (program start) a.dual.now w.new.buffer ended.new.buffer w.result w.ensures.0 w.ensures.1 end in
     let put = put_end w.result w.new.buffer ended.new.buffer ∙ whole in (
-      dual_length_is a.file.now a.dual.now (program start) (read start) size fits,
-      rw (c.if-not-allowed.false) (dual_fits a.file.now a.dual.now (program start) (read start) size fits _ put),
+      dual_length_is a.file.now.bytes.now a.dual.now (program start) (read start) size fits,
+      rw (c.if-not-allowed.false) (dual_fits a.file.now.bytes.now a.dual.now (program start) (read start) size fits _ put),
     )

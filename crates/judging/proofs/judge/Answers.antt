@@ -21,7 +21,7 @@ use Rattle.rows.specs.DualBytes.{DualStarts}
 use Rattle.rows.proofs.EntryBytes.{filled_starts}
 use Rattle.judging.proofs.JudgingLaws.{judged_refused, judged_short, judged_small, judged_past, judged_done}
 use Rattle.judging.proofs.judge.Goals as goal
-use Rattle.judging.proofs.judge.Goals.{In_ok-contents, In_ok-write_accepted, Else-not-listed, then-room, else-room}
+use Rattle.judging.proofs.judge.Goals.{In_ok-contents, After-new-accepted, In_ok-write_accepted, Else-not-listed, then-room, else-room}
 
 -- ---- once both papers are accepted
 
@@ -47,9 +47,6 @@ module _ (c : In_ok-contents) where
   read : read_papers c.args.file.now c.args.sheet.now ≡ accepted papers
   read = both_read both (λ i. (c.type_inv.sheet i).fits)
 
-  program : read_file c.args.file.now ≡ accepted papers.program
-  program = (told c.args.file.now _ both.answer).is
-
   atoms : papers.program.atoms ≡ contents.atoms
   atoms = atoms_are c.args.file.now _ both.answer
 
@@ -63,19 +60,27 @@ returns-in_err-contents c =
 pub scenario_count-requires : goal.scenario_count-requires
 scenario_count-requires c = few_abducibles_lem (both (goal.at.scenario_count-requires c).In_ok-contents)
 
-pub fold_places-places-requires : goal.fold_places-places-requires
-fold_places-places-requires c = (both (goal.at.fold_places-places-requires c).In_ok-contents).answer
+pub new-accepted-requires : goal.new-accepted-requires
+new-accepted-requires c = (both (goal.at.new-accepted-requires c).In_ok-contents).answer
+
+-- ---- once the file's folds are placed
+
+program : (c : After-new-accepted) → read_file c.new-accepted.result.bytes.now ≡ accepted (papers (goal.at.After-new-accepted c).In_ok-contents).program
+program c =
+    let r = (goal.at.After-new-accepted c).In_ok-contents in
+    rw c.new-accepted.ensures.0 (told c.args.file.now _ (both r).answer).is
 
 pub returns-in_err-write_accepted : goal.returns-in_err-write_accepted
 returns-in_err-write_accepted c =
     let a = c.args in
     let r = (goal.at.returns-in_err-write_accepted c).In_ok-contents in
+    let is_read = program (goal.at.returns-in_err-write_accepted c).After-new-accepted in
     let ensured = c.write_accepted.ensures in
-    let short = dual_refused (program r) a.dual.now ensured.0 c.in_err-write_accepted.was in
-    let is = dual_error (program r) a.dual.now ensured.0 c.in_err-write_accepted.was in
+    let short = dual_refused is_read a.dual.now ensured.0 c.in_err-write_accepted.was in
+    let is = dual_error is_read a.dual.now ensured.0 c.in_err-write_accepted.was in
     let p = err_from_is_err_and c.from_residual-in_err-write_accepted.result c.from_residual-in_err-write_accepted.ensures.1 in
     rw (p.1, p.2, is)
-    (judged_short (papers r) (read r) a.scenario a.dual.now a.model.now short (dual_stays (program r) _ a.dual.now ensured.1 short))
+    (judged_short (papers r) (read r) a.scenario a.dual.now a.model.now short (dual_stays is_read _ a.dual.now ensured.1 short))
 
 -- ---- once the dual is written
 
@@ -84,10 +89,10 @@ module _ (c : In_ok-write_accepted) where
   accepts = (goal.at.In_ok-write_accepted c).In_ok-contents
 
   fits : length (dual_of (papers accepts).program) ≤ length c.args.dual.now
-  fits = dual_fits (program accepts) c.args.dual.now c.write_accepted.ensures.0 c.in_ok-write_accepted.was
+  fits = dual_fits (program (goal.at.In_ok-write_accepted c).After-new-accepted) c.args.dual.now c.write_accepted.ensures.0 c.in_ok-write_accepted.was
 
   kept : c.if-room.write_accepted ≡ false → c.write_accepted.new.dual ≡ c.args.dual.now
-  kept e = dual_kept (program accepts) _ c.args.dual.now c.write_accepted.ensures.1 e
+  kept e = dual_kept (program (goal.at.In_ok-write_accepted c).After-new-accepted) _ c.args.dual.now c.write_accepted.ensures.1 e
 
 pub returns-then-not-room : goal.returns-then-not-room
 returns-then-not-room c =
@@ -127,7 +132,7 @@ module _ (c : Else-not-listed) where
   ]
 
   dual_is : c.write_accepted.new.dual ≡ filled (dual_of (papers (accepts written)).program) c.args.dual.now
-  dual_is = dual_filled (program (accepts written)) _ c.args.dual.now c.write_accepted.ensures.1 allowed (fits written)
+  dual_is = dual_filled (program (goal.at.Else-not-listed c).After-new-accepted) _ c.args.dual.now c.write_accepted.ensures.1 allowed (fits written)
 
   large : judged (papers (accepts written)).program.atoms ≤ length c.args.model.now
   large = omega (arith, atoms (accepts written), c.judged.ensures, c.if-not-room.false)
@@ -146,18 +151,18 @@ judge_accepted-requires c =
     let a = c.args in
     let l = (goal.at.judge_accepted-requires c).Else-not-listed in
     let r = (goal.at.judge_accepted-requires c).In_ok-contents in
-    let program = program_in a.file.now in (
+    let p = program_in a.file.now in
+    let same = c.new-accepted.ensures.0 in (
       record {
-        walked = c.fold_places-places.ensures;
-        starts = subst (DualStarts program) (sym (dual_is l)) (filled_starts program (program_valid a.file.now _ (both r).answer) a.dual.now);
-        asked = both_asked (both r) (λ i. (c.type_inv.sheet i).fits);
+        starts = rw same (subst (DualStarts p) (sym (dual_is l)) (filled_starts p (program_valid a.file.now _ (both r).answer) a.dual.now));
+        asked = rw same (both_asked (both r) (λ i. (c.type_inv.sheet i).fits));
       },
-      large l,
+      rw same (large l),
     )
 
 pub returns : goal.returns
 returns c =
-    let ensured = c.judge_accepted.ensures in
+    let ensured = rw c.new-accepted.ensures.0 at c.judge_accepted.ensures in
     let a = c.args in
     let l = (goal.at.returns c).Else-not-listed in
     let r = (goal.at.returns c).In_ok-contents in

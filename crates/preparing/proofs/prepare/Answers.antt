@@ -2,7 +2,7 @@
 use native.Mathlib.Omega.{arith}
 use mathlib.Core.Path.{◌≡◌, sym, ap, ◌∙◌}
 use mathlib.Core.List.{List}
-use Prim.Native.Nat.{ℕ, ◌+◌, ◌≤◌}
+use Prim.Native.Nat.{ℕ, ◌≤◌}
 use lib.ListN.{length}
 use Rattle.literals.specs.Numbering.{judged}
 use Rattle.papers.specs.Program.{Program}
@@ -17,22 +17,19 @@ use Rattle.rows.specs.Rows.{rule_rows, entry_rows, joined}
 use Rattle.rows.proofs.RowLaws.{rule_rows_count, rule_rows_bound, entry_rows_count, entry_rows_bound}
 use Rattle.preparing.proofs.RowsPrepared.{visits_unmarked, rows_prepared}
 use Rattle.preparing.proofs.prepare.Goals as goal
-use Rattle.preparing.proofs.prepare.Goals.{After-judged-judged, After-order_rows, Start}
+use Rattle.preparing.proofs.prepare.Goals.{After-fold_count-count, After-judged-judged, After-order_rows, Start}
 
 -- ---- what the file says
 
 module _ (c : Start) where
   abbrev program : Program
-  program = program_in c.args.file.now
+  program = program_in c.args.file.now.bytes.now
 
-  abbrev count : ℕ
-  count = c.args.contents.rules.count + c.args.contents.integrity.count
-
-  few : count ≤ 1280
-  few = few_folds c.args.file.now c.args.contents c.requires.0.walked.answer
-
-  rules_listed : count ≡ length (rule_rows program)
-  rules_listed = rules_counted c.args.file.now c.args.contents c.requires.0.walked.answer ∙ sym (rule_rows_count program)
+  few : length (rule_rows program) ≤ 1280
+  few =
+      let file = c.args.file.now in
+      let counted = rules_counted file.bytes.now file.contents file.walked.answer in
+      omega (arith, few_folds file.bytes.now file.contents file.walked.answer, counted, rule_rows_count program)
 
   rules_room : length (joined (rule_rows program)) ≤ length c.args.rules.now
   rules_room = omega (arith, rule_rows_bound program c.requires.0.starts.valid, c.requires.1.rules_fit)
@@ -44,7 +41,7 @@ module _ (c : Start) where
 
 module _ (c : After-judged-judged) where
   counted : c.judged-judged.result ≡ judged (program (goal.at.After-judged-judged c).Start).atoms
-  counted = c.judged-judged.ensures ∙ ap judged (sym (atoms_are c.args.file.now c.args.contents c.requires.0.walked.answer))
+  counted = let file = c.args.file.now in c.judged-judged.ensures ∙ ap judged (sym (atoms_are file.bytes.now file.contents file.walked.answer))
 
   judged_few : c.judged-judged.result ≤ 513
   judged_few = omega (arith, counted, c.requires.0.starts.valid.few_atoms)
@@ -52,12 +49,16 @@ module _ (c : After-judged-judged) where
   entries_listed : c.judged-judged.result ≡ length (entry_rows (program (goal.at.After-judged-judged c).Start))
   entries_listed = counted ∙ sym (entry_rows_count (program (goal.at.After-judged-judged c).Start))
 
--- ---- one call after the other
+-- ---- where the folds are counted
 
-pub overflow_add-count : goal.overflow_add-count
-overflow_add-count c =
-    let at_start = (goal.at.overflow_add-count c).Start in
-    omega (arith, few at_start)
+module _ (c : After-fold_count-count) where
+  rules_listed : c.fold_count-count.result ≡ length (rule_rows (program (goal.at.After-fold_count-count c).Start))
+  rules_listed = c.fold_count-count.ensures ∙ sym (rule_rows_count (program (goal.at.After-fold_count-count c).Start))
+
+  folds_few : c.fold_count-count.result ≤ 1280
+  folds_few = omega (arith, rules_listed, few (goal.at.After-fold_count-count c).Start)
+
+-- ---- one call after the other
 
 pub decode_dual-requires : goal.decode_dual-requires
 decode_dual-requires c =
@@ -67,9 +68,8 @@ decode_dual-requires c =
 pub order_rows-requires : goal.order_rows-requires
 order_rows-requires c =
     let at_judged = (goal.at.order_rows-requires c).After-judged-judged in
-    let at_start = (goal.at.order_rows-requires c).Start in
     let few-entries = judged_few at_judged in
-    let few-rules = few at_start in (
+    let few-rules = folds_few (goal.at.order_rows-requires c).After-fold_count-count in (
       few-entries,
       (
         few-rules,
@@ -92,11 +92,11 @@ module _ (o : After-order_rows) where
   abbrev entries_ordered : List ℕ
   entries_ordered = o.order_rows.new.entry_visits
 
-  rules_unmarked : Unmarked (count (goal.at.After-order_rows o).Start) rules_ordered
+  rules_unmarked : Unmarked o.fold_count-count.result rules_ordered
   rules_unmarked =
-      let start = (goal.at.After-order_rows o).Start in
-      let p = program start in
-      visits_unmarked (rule_rows p) _ o.decode_rules.new.starts rules_ordered (count start) (rules_listed start)
+      let p = program (goal.at.After-order_rows o).Start in
+      let listed = rules_listed (goal.at.After-order_rows o).After-fold_count-count in
+      visits_unmarked (rule_rows p) _ o.decode_rules.new.starts rules_ordered o.fold_count-count.result listed
       (omega (arith, rule_rows_bound p o.requires.0.starts.valid)) o.decode_rules.ensures.1 o.order_rows.ensures.1.0
 
   entries_unmarked : Unmarked o.judged-judged.result entries_ordered
@@ -110,9 +110,8 @@ module _ (o : After-order_rows) where
 
 pub mark_parts-requires : goal.mark_parts-requires
 mark_parts-requires c =
-    let at_start = (goal.at.mark_parts-requires c).Start in
     let at_ordered = (goal.at.mark_parts-requires c).After-order_rows in
-    let few-rules = few at_start in
+    let few-rules = folds_few (goal.at.mark_parts-requires c).After-fold_count-count in
     let long = c.order_rows.ensures.1.1.sized in
     (few-rules, (omega (arith, c.requires.1.rule_visits_fit), rules_unmarked at_ordered))
 
@@ -130,14 +129,14 @@ returns c =
     let at_ordered = (goal.at.returns c).After-order_rows in
     let at_judged = (goal.at.returns c).After-judged-judged in
     let copied = c.copy_numbers in
-    let folds = rules_counted c.args.file.now c.args.contents c.requires.0.walked.answer in
+    let listed = rules_listed (goal.at.returns c).After-fold_count-count in
     let asked = sym (count_numbers c.args.query.now) in
     record {
       rules_in_lem =
           rows_prepared 0 (rule_rows (program at_start)) c.args.rules.now c.decode_rules.new.numbers c.args.rule_visits.now
           (rules_ordered at_ordered) c.mark_parts.new.visits (rules_room at_start)
-          (omega (arith, few at_start, rules_listed at_start, c.requires.1.rule_visits_fit)) _
-          c.decode_rules.new.starts c.decode_rules.ensures.0 c.decode_rules.ensures.1 (count at_start) (rules_listed at_start)
+          (omega (arith, few at_start, c.requires.1.rule_visits_fit)) _
+          c.decode_rules.new.starts c.decode_rules.ensures.0 c.decode_rules.ensures.1 c.fold_count-count.result listed
           c.order_rows.ensures.1.0 c.order_rows.ensures.1.1 c.mark_parts.ensures.0 c.mark_parts.ensures.1;
       entries_in =
           rows_prepared 1 (entry_rows (program at_start)) c.args.entries.now c.decode_dual.new.numbers c.args.entry_visits.now
@@ -146,5 +145,5 @@ returns c =
           c.decode_dual.new.starts c.decode_dual.ensures.0 c.decode_dual.ensures.1 c.judged-judged.result (entries_listed at_judged)
           c.order_rows.ensures.0.0 c.order_rows.ensures.0.1 c.mark_parts-2.ensures.0 c.mark_parts-2.ensures.1;
       query_in = copied.ensures ∙ laid_first (numbers c.args.query.now) c.args.asked.now;
-      counted = λ i. record { folds = folds i; judged = counted at_judged i; asked = asked i };
+      counted = λ i. record { folds = c.fold_count-count.ensures i; judged = counted at_judged i; asked = asked i };
     }

@@ -34,8 +34,8 @@ scenario_count-total-requires c = few_abducibles_lem (both (goal.at.scenario_cou
 pub is_spoilt_search-spoilt-requires : goal.is_spoilt_search-spoilt-requires
 is_spoilt_search-spoilt-requires c = few_abducibles_lem (both (goal.at.is_spoilt_search-spoilt-requires c).Start)
 
-pub fold_places-places-requires : goal.fold_places-places-requires
-fold_places-places-requires c = (both (goal.at.fold_places-places-requires c).Start).answer
+pub new-accepted-requires : goal.new-accepted-requires
+new-accepted-requires c = (both (goal.at.new-accepted-requires c).Start).answer
 
 -- ---- once the dual is written or not
 
@@ -49,8 +49,8 @@ module _ (c : After-write_accepted) where
   read : read_papers c.args.file.now c.args.sheet.now ≡ accepted papers
   read = both_read here (λ i. (c.type_inv.sheet i).fits)
 
-  program : read_file c.args.file.now ≡ accepted papers.program
-  program = (told c.args.file.now _ here.answer).is
+  program : read_file c.new-accepted.result.bytes.now ≡ accepted papers.program
+  program = rw c.new-accepted.ensures.0 (told c.args.file.now _ here.answer).is
 
   spoilt_told : spoilt_search (problem_of papers) c.args.from c.args.list.now ≡ c.is_spoilt_search-spoilt.result
   spoilt_told = spoilt_is here c.scenario_count-total.ensures c.args.from c.args.list.now c.is_spoilt_search-spoilt.ensures
@@ -102,13 +102,13 @@ search_accepted-requires c =
     let p = program_in a.file.now in
     let here = both (goal.at.search_accepted-requires c).Start in
     let filled = written (goal.at.search_accepted-requires c).In_ok-write_accepted c.if-spoilt.false in
+    let same = c.new-accepted.ensures.0 in
     record {
       prepared = record {
-        walked = c.fold_places-places.ensures;
-        starts = subst (DualStarts p) (sym filled) (filled_starts p (program_valid a.file.now _ here.answer) a.dual.now);
-        asked = both_asked here (λ i. (c.type_inv.sheet i).fits);
+        starts = rw same (subst (DualStarts p) (sym filled) (filled_starts p (program_valid a.file.now _ here.answer) a.dual.now));
+        asked = rw same (both_asked here (λ i. (c.type_inv.sheet i).fits));
       };
-      scenarios = scenarios_are here c.scenario_count-total.ensures;
+      scenarios = rw same (scenarios_are here c.scenario_count-total.ensures);
       unspoilt = unspoilt_record _ _ _ _ (sym c.is_spoilt_search-spoilt.ensures ∙ c.if-spoilt.false);
     }
 
@@ -119,4 +119,4 @@ returns c =
     let done = (goal.at.returns c).In_ok-write_accepted in
     let unspoilt = spoilt_told place ∙ c.if-spoilt.false in
     answers_report (papers place) (read place) a.allowance a.dual.now a.from a.list.now (fits done) unspoilt (written done c.if-spoilt.false)
-    c.search_accepted.ensures
+    (rw c.new-accepted.ensures.0 at c.search_accepted.ensures)

@@ -15,7 +15,7 @@ use Rattle.trying.proofs.search_accepted.Goals as goal
 pub returns-then-allowance-eq0 : goal.returns-then-allowance-eq0
 returns-then-allowance-eq0 c =
     let a = c.args in
-    let P = held_problem (problem_in a.papers.now.file.now (numbers a.papers.now.query.now)) a.from.held in
+    let P = held_problem (problem_in a.papers.now.file.now.bytes.now (numbers a.papers.now.query.now)) a.from.held in
     let work = begun a.from.at a.list.now in
     let ran = ap (λ (n : ℕ). steps P n work) c.if-allowance-eq0.true ∙ steps_zero P work in (
       c.report_of.ensures
@@ -30,7 +30,7 @@ try_all-reached-requires c =
     let a = c.args in
     let sound = c.requires in
     let decoded = c.decode.ensures in
-    let P = held_problem (problem_in a.papers.now.file.now (numbers a.papers.now.query.now)) a.from.held in (
+    let P = held_problem (problem_in a.papers.now.file.now.bytes.now (numbers a.papers.now.query.now)) a.from.held in (
       record {
         prepared = decoded.0;
         scenarios = rw decoded.1 sound.scenarios;
@@ -44,7 +44,7 @@ pub returns : goal.returns
 returns c =
     let none = c.untried-before.ensures in
     let a = c.args in
-    let P = held_problem (problem_in a.papers.now.file.now (numbers a.papers.now.query.now)) a.from.held in
+    let P = held_problem (problem_in a.papers.now.file.now.bytes.now (numbers a.papers.now.query.now)) a.from.held in
     let told = rw (c.decode.ensures.1, c.decode.ensures.3) at c.try_all-reached.ensures.is in
     let ran = ap (λ (b : Progress). steps P a.allowance (work_of b a.list.now)) (sym none) ∙ told in
     let scenarios = c.requires.scenarios in (

@@ -16,14 +16,14 @@ use Rattle.rows.proofs.rules.decode_rule.Goals.{After-body_of-body}
 
 module _ (c : After-body_of-body) where
   abbrev rule : Rule
-  rule = rule_at (program_in c.args.file.now) c.args.fold.0
+  rule = rule_at (program_in c.args.file.now.bytes.now) c.args.fold.0
 
   abbrev body : List ℕ
   body = c.body_of-body.result.now
 
   -- There is room for the row.
   room : c.args.at + (2 + length rule.body) ≤ length c.args.numbers.now
-  room = let l = rule_row_length rule in omega (arith, c.requires.1.1)
+  room = let l = rule_row_length rule in omega (arith, c.requires.1)
 
   -- Writing its first two numbers leaves the array as long as it was.
   kept : (x y : ℕ) → length (set (set c.args.numbers.now c.args.at x) (c.args.at + 1) y) ≡ length c.args.numbers.now
@@ -34,7 +34,8 @@ module _ (c : After-body_of-body) where
   few : length body ≤ 32
   few =
       let a = c.args in
-      let f = few_body a.file.now a.contents c.requires.0.answer a.fold.0 c.requires.1.0 in
+      let file = a.file.now in
+      let f = few_body file.bytes.now file.contents file.walked.answer a.fold.0 c.requires.0 in
       omega (arith, c.body_of-body.ensures.size)
 
 pub bounds-numbers-at : goal.bounds-numbers-at
@@ -70,5 +71,5 @@ returns c =
       omega (arith, c.body_of-body.ensures.size),
       c.copy_numbers.ensures
           ∙ rule_laid (rule at_body_of_body) (body at_body_of_body) c.body_of-body.ensures a.at c.head_of-head.result.0 a.numbers.now c.head_of-head.ensures.0
-          c.requires.1.1,
+          c.requires.1,
     )

@@ -1,6 +1,6 @@
 -- `rows::rules::decode_rules` meets its contract. The loop's invariant: the rows of the rules passed are decoded.
 use native.Mathlib.Omega.{arith}
-use mathlib.Core.Path.{◌≡◌, sym, ◌∙◌}
+use mathlib.Core.Path.{◌≡◌}
 use mathlib.Core.List.{List, []}
 use Prim.Native.Nat.{ℕ, ◌+◌, ◌≤◌, ◌<◌}
 use lib.ListN.{length, get_or}
@@ -18,22 +18,22 @@ use Rattle.rows.proofs.rules.decode_rules.Goals.{In-loop-fold, Start}
 
 module _ (c : Start) where
   abbrev program : Program
-  program = program_in c.args.file.now
+  program = program_in c.args.file.now.bytes.now
 
-  few : c.args.contents.rules.count + c.args.contents.integrity.count ≤ 1280
-  few = few_folds c.args.file.now c.args.contents c.requires.0.answer
-
-  counted : c.args.contents.rules.count + c.args.contents.integrity.count ≡ length (rule_rows program)
-  counted = rules_counted c.args.file.now c.args.contents c.requires.0.answer ∙ sym (rule_rows_count program)
+  few : length (rule_rows program) ≤ 1280
+  few =
+      let file = c.args.file.now in
+      let counted = rules_counted file.bytes.now file.contents file.walked.answer in
+      omega (arith, few_folds file.bytes.now file.contents file.walked.answer, counted, rule_rows_count program)
 
   bound : length (joined (rule_rows program)) ≤ 23040
-  bound = rule_rows_bound program (program_valid c.args.file.now c.args.contents c.requires.0.answer)
+  bound = let file = c.args.file.now in rule_rows_bound program (program_valid file.bytes.now file.contents file.walked.answer)
 
   room : length (joined (rule_rows program)) ≤ length c.args.numbers.now
-  room = omega (arith, bound, c.requires.1.0)
+  room = omega (arith, bound, c.requires.0)
 
   starts_room : length (rule_rows program) ≤ length c.args.starts.now
-  starts_room = omega (arith, few, counted, c.requires.1.1)
+  starts_room = omega (arith, few, c.requires.1)
 
 -- ---- in a turn of the loop
 
@@ -48,7 +48,7 @@ module _ (c : In-loop-fold) where
   row = rule_row (rule_at p c.loop-fold.fold)
 
   listed : c.loop-fold.fold < length (rule_rows p)
-  listed = omega (arith, counted start)
+  listed = omega (arith, c.fold_count-count.ensures, rule_rows_count p)
 
   below : c.loop-fold.fold < length (all_rules p)
   below = omega (arith, listed, rule_rows_count p)
@@ -63,9 +63,6 @@ module _ (c : In-loop-fold) where
       decoded_room (rule_rows p) c.args.numbers.now c.args.starts.now (room start) (starts_room start) l.fold l.at l.numbers l.starts l.invariant
       listed row row_is
 
-pub overflow_add-count : goal.overflow_add-count
-overflow_add-count c = omega (arith, few (goal.at.overflow_add-count c).Start)
-
 pub loop-fold-init : goal.loop-fold-init
 loop-fold-init c =
     let start = (goal.at.loop-fold-init c).Start in
@@ -77,7 +74,8 @@ overflow_cast-starts c =
     omega (arith, bound (goal.at.overflow_cast-starts c).Start)
 
 pub offset_bounds-starts-fold : goal.offset_bounds-starts-fold
-offset_bounds-starts-fold c = omega (arith, few (goal.at.offset_bounds-starts-fold c).Start)
+offset_bounds-starts-fold c =
+    omega (arith, few (goal.at.offset_bounds-starts-fold c).Start, listed (goal.at.offset_bounds-starts-fold c).In-loop-fold)
 
 pub bounds-starts-fold : goal.bounds-starts-fold
 bounds-starts-fold c =
@@ -87,7 +85,7 @@ bounds-starts-fold c =
 pub decode_rule-at-requires : goal.decode_rule-at-requires
 decode_rule-at-requires c =
     let turn = (goal.at.decode_rule-at-requires c).In-loop-fold in
-    (c.requires.0, (below turn, omega (arith, room_here turn, room (start turn), c.loop-fold.invariant.kept)))
+    (below turn, omega (arith, room_here turn, room (start turn), c.loop-fold.invariant.kept))
 
 pub loop-fold-preserved : goal.loop-fold-preserved
 loop-fold-preserved c =
@@ -103,4 +101,4 @@ returns c =
     let start = (goal.at.returns c).Start in
     let l = c.loop-fold in
     decoded_all (rule_rows (program start)) c.args.numbers.now c.args.starts.now (room start) (starts_room start) l.fold l.at l.numbers l.starts
-    l.invariant (omega (arith, counted start))
+    l.invariant (omega (arith, c.fold_count-count.ensures, rule_rows_count (program start)))

@@ -5,4 +5,4 @@ use Rattle.rows.proofs.DecodedLaws.{DecodedTo}
 use Rattle.rows.proofs.rules.decode_rules.Given as goal
 
 abbrev pub invariant-loop-fold : goal.invariant-loop-fold
-invariant-loop-fold l = DecodedTo (rule_rows (program_in l.file)) l.initial.numbers l.initial.starts l.fold l.at l.numbers l.starts
+invariant-loop-fold l = DecodedTo (rule_rows (program_in l.fn.file.bytes.now)) l.initial.numbers l.initial.starts l.fold l.at l.numbers l.starts

@@ -6,4 +6,5 @@ use Rattle.verdicts.proofs.Room.decode.Goals as goal
 pub returns : goal.returns
 returns c =
     let m = c.prepare-counts.ensures in
-    (papers_decoded m _ c.requires refl refl refl refl refl refl, refl, refl, query_part m)
+    let file = c.args.papers.now.file.now in
+    (papers_decoded file m _ c.requires refl refl refl refl refl refl refl, refl, refl, query_part file m)

@@ -15,22 +15,21 @@ use Rattle.dual_writer.proofs.chains.Chains.of.Goals.{In-loop-k, Start}
 
 module _ (c : Start) where
   abbrev rules : List Rule
-  rules = all_rules (program_in c.args.file.now)
+  rules = all_rules (program_in c.args.file.now.bytes.now)
 
-  counted : c.args.contents.rules.count + c.args.contents.integrity.count ≡ length rules
-  counted = rules_counted c.args.file.now c.args.contents c.requires.answer
-
-  few : c.args.contents.rules.count + c.args.contents.integrity.count ≤ 1280
-  few = few_folds c.args.file.now c.args.contents c.requires.answer
+  few : length rules ≤ 1280
+  few =
+      let file = c.args.file.now in
+      omega (arith, few_folds file.bytes.now file.contents file.walked.answer, rules_counted file.bytes.now file.contents file.walked.answer)
 
 -- ---- in a turn of the loop
 
 module _ (c : In-loop-k) where
-  few_here : c.loop-k.k - 1 < 1280
-  few_here = omega (arith, few (goal.at.In-loop-k c).Start)
-
   below : c.loop-k.k - 1 < length (rules (goal.at.In-loop-k c).Start)
-  below = omega (arith, counted (goal.at.In-loop-k c).Start)
+  below = omega (arith, c.fold_count-k.ensures)
+
+  few_here : c.loop-k.k - 1 < 1280
+  few_here = omega (arith, below, few (goal.at.In-loop-k c).Start)
 
 pub overflow_step-k : goal.overflow_step-k
 overflow_step-k c = omega (arith, few (goal.at.overflow_step-k c).Start)
@@ -38,11 +37,11 @@ overflow_step-k c = omega (arith, few (goal.at.overflow_step-k c).Start)
 pub loop-k-init : goal.loop-k-init
 loop-k-init c =
     let start = (goal.at.loop-k-init c).Start in
-    let n = counted start in
+    let n = c.fold_count-k.ensures in
     rw n (linked_none (rules start) (omega (arith, few start)))
 
 pub head_of-head-requires : goal.head_of-head-requires
-head_of-head-requires c = (c.requires, below (goal.at.head_of-head-requires c).In-loop-k)
+head_of-head-requires c = below (goal.at.head_of-head-requires c).In-loop-k
 
 pub loop-k-preserved : goal.loop-k-preserved
 loop-k-preserved c =
@@ -56,4 +55,4 @@ pub returns : goal.returns
 returns c =
     let l = c.loop-k in
     let e : l.k ≡ 0 = omega arith in
-    linked_all (program_in c.args.file.now) l.first l.next (rw e at l.invariant)
+    linked_all (program_in c.args.file.now.bytes.now) l.first l.next (rw e at l.invariant)

@@ -5,4 +5,4 @@ use Rattle.dual_writer.proofs.ChainLaws.{Linked}
 use Rattle.dual_writer.proofs.chains.Chains.of.Given as goal
 
 abbrev pub invariant-loop-k : goal.invariant-loop-k
-invariant-loop-k l = Linked (all_rules (program_in l.fn.file)) l.k l.first l.next
+invariant-loop-k l = Linked (all_rules (program_in l.fn.file.bytes.now)) l.k l.first l.next

@@ -16,13 +16,13 @@ use Rattle.dual_writer.proofs.entries.Source.dual_length.Goals.{After-judged-jud
 
 module _ (c : After-judged-judged) where
   abbrev program : Program
-  program = program_in c.args.self.now.file.now
+  program = program_in c.args.self.now.file.now.bytes.now
 
   abbrev count : ℕ
   count = c.judged-judged.result
 
   counted : count ≡ judged program.atoms
-  counted = let s = c.args.self.now in c.judged-judged.ensures ∙ ap judged (sym (atoms_are s.file.now s.contents c.requires.walked.answer))
+  counted = let s = c.args.self.now.file.now in c.judged-judged.ensures ∙ ap judged (sym (atoms_are s.bytes.now s.contents s.walked.answer))
 
   length_is : dual_length program ≡ entries_length program count 0 + 3
   unfolding dual_length
@@ -30,7 +30,7 @@ module _ (c : After-judged-judged) where
 
   -- All of them fit.
   whole : entries_length program count 0 + 3 ≤ 52488
-  whole = let s = c.args.self.now in rw (← length_is) (dual_bound program (program_valid s.file.now s.contents c.requires.walked.answer))
+  whole = let s = c.args.self.now.file.now in rw (← length_is) (dual_bound program (program_valid s.bytes.now s.contents s.walked.answer))
 
 -- ---- in a turn of the loop
 
@@ -44,8 +44,8 @@ module _ (c : After-unwrap_or-total) where
 
 pub entry_length-requires : goal.entry_length-requires
 entry_length-requires c =
-    let s = c.args.self.now in
-    let few = few_atoms_lem s.file.now s.contents c.requires.walked.answer in
+    let s = c.args.self.now.file.now in
+    let few = few_atoms_lem s.bytes.now s.contents s.walked.answer in
     (c.requires, omega (arith, c.judged-judged.ensures))
 
 pub overflow_add-total : goal.overflow_add-total

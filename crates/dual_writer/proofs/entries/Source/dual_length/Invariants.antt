@@ -7,5 +7,5 @@ use Rattle.dual_writer.proofs.entries.Source.dual_length.Given as goal
 
 abbrev pub invariant-loop-o : goal.invariant-loop-o
 invariant-loop-o l =
-    let p = program_in l.fn.self.file.now in
+    let p = program_in l.fn.self.file.now.bytes.now in
     entries_length p l.judged 0 ≡ l.total + entries_length p (l.judged - l.o) l.o

@@ -17,20 +17,20 @@ use Rattle.dual_writer.proofs.entries.Source.rules_length.Goals.{In-Some}
 -- ---- in a turn of the loop
 
 module _ (c : In-Some) where
-  here : FoldIn (all_rules (program_in c.args.self.now.file.now)) c.args.o.0 c.in-Some.fold.0
+  here : FoldIn (all_rules (program_in c.args.self.now.file.now.bytes.now)) c.args.o.0 c.in-Some.fold.0
   here = walk_fold _ _ _ _ _ c.loop-ahead.invariant c.in-Some.fold c.in-Some.is
 
-  few : length (rule_at (program_in c.args.self.now.file.now) c.in-Some.fold.0).body ≤ 16
-  few = let s = c.args.self.now in few_body s.file.now s.contents c.requires.0.walked.answer c.in-Some.fold.0 here.below
+  few : length (rule_at (program_in c.args.self.now.file.now.bytes.now) c.in-Some.fold.0).body ≤ 16
+  few = let s = c.args.self.now.file.now in few_body s.bytes.now s.contents s.walked.answer c.in-Some.fold.0 here.below
 
 pub loop-ahead-init : goal.loop-ahead-init
 loop-ahead-init c =
     let s = c.args.self.now in
-    rw c.first_of-ahead.ensures (walk_starts (program_in s.file.now) s.chains.now.first s.chains.now.next c.args.o.0 c.requires.0.chains c.requires.1)
+    rw c.first_of-ahead.ensures (walk_starts (program_in s.file.now.bytes.now) s.chains.now.first s.chains.now.next c.args.o.0 c.requires.0.chains c.requires.1)
 
 pub returns-then-is_empty : goal.returns-then-is_empty
 returns-then-is_empty c =
-    let p = program_in c.args.self.now.file.now in
+    let p = program_in c.args.self.now.file.now.bytes.now in
     let empty = eqb-true _ _ (sym c.is_empty.ensures ∙ c.if-is_empty.true) in
     (walk_fact _ _ _ _ _ c.loop-ahead.invariant c.in-Some.fold c.in-Some.is (omega (arith, c.body_of-body.ensures.size)) ∙ walk_all p c.args.o.0, tt)
 
@@ -44,4 +44,4 @@ loop-ahead-preserved c =
 pub returns : goal.returns
 returns c =
     let d = walk_done _ _ _ _ _ c.loop-ahead.invariant c.in_default.is in
-    (d.0 ∙ walk_all (program_in c.args.self.now.file.now) c.args.o.0, d.1)
+    (d.0 ∙ walk_all (program_in c.args.self.now.file.now.bytes.now) c.args.o.0, d.1)

@@ -10,11 +10,11 @@ use Rattle.dual_writer.proofs.entries.Source.write_any_entry.Goals.{In-Some}
 -- ---- where there is an entry
 
 module _ (c : In-Some) where
-  is : entry_if_any (program_in c.args.self.now.file.now) c.args.o.0 ≡ entry (program_in c.args.self.now.file.now) c.args.o.0
-  is = some_entry (program_in c.args.self.now.file.now) c.args.o.0 c.entry_length.ensures.0 c.in-Some.is
+  is : entry_if_any (program_in c.args.self.now.file.now.bytes.now) c.args.o.0 ≡ entry (program_in c.args.self.now.file.now.bytes.now) c.args.o.0
+  is = some_entry (program_in c.args.self.now.file.now.bytes.now) c.args.o.0 c.entry_length.ensures.0 c.in-Some.is
 
 pub returns-in-None : goal.returns-in-None
 unfolding encode_fields
 returns-in-None c =
-    let none = no_entry (program_in c.args.self.now.file.now) c.args.o.0 c.entry_length.ensures.0 c.in-None.is in
+    let none = no_entry (program_in c.args.self.now.file.now.bytes.now) c.args.o.0 c.entry_length.ensures.0 c.in-None.is in
     (rw none, rw none)

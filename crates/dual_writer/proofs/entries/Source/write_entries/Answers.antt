@@ -22,10 +22,10 @@ use Rattle.dual_writer.proofs.entries.Source.write_entries.Goals.{At-loop-o, In-
 
 module _ (c : Start) where
   abbrev program : Program
-  program = program_in c.args.self.now.file.now
+  program = program_in c.args.self.now.file.now.bytes.now
 
-  atoms : program.atoms ≡ c.args.self.now.contents.atoms
-  atoms = let s = c.args.self.now in atoms_are s.file.now s.contents c.requires.0.walked.answer
+  atoms : program.atoms ≡ c.args.self.now.file.now.contents.atoms
+  atoms = let s = c.args.self.now.file.now in atoms_are s.bytes.now s.contents s.walked.answer
 
 -- ---- in a turn of the loop
 
@@ -55,8 +55,8 @@ write_any_entry-size-requires c =
     let r = room (goal.at.write_any_entry-size-requires c).In-loop-o in
     let p = ap length (to_end at.end at.buffer) in
     let d = length-drop at.end at.buffer in
-    let s = c.args.self.now in
-    let few = few_atoms_lem s.file.now s.contents c.requires.0.walked.answer in
+    let s = c.args.self.now.file.now in
+    let few = few_atoms_lem s.bytes.now s.contents s.walked.answer in
     (c.requires.0, (omega (arith, c.judged-judged.ensures), omega (arith, at.invariant.1)))
 
 pub loop-o-preserved : goal.loop-o-preserved

@@ -6,4 +6,4 @@ use Rattle.dual_writer.proofs.TableWriting.{Tabled}
 use Rattle.dual_writer.proofs.entries.Source.write_entries.Given as goal
 
 abbrev pub invariant-loop-o : goal.invariant-loop-o
-invariant-loop-o l = Tabled (program_in l.fn.self.file.now) l.initial.buffer l.buffer l.o l.end × (length l.buffer ≡ length l.initial.buffer)
+invariant-loop-o l = Tabled (program_in l.fn.self.file.now.bytes.now) l.initial.buffer l.buffer l.o l.end × (length l.buffer ≡ length l.initial.buffer)

@@ -28,7 +28,7 @@ use Rattle.dual_writer.proofs.entries.Source.write_entry.Goals.{After-write_fold
 
 module _ (c : Start) where
   abbrev program : Program
-  program = program_in c.args.self.now.file.now
+  program = program_in c.args.self.now.file.now.bytes.now
 
   abbrev folds : List ℕ
   folds = folds_of program c.args.o.0
@@ -117,6 +117,9 @@ loop-ahead-init c =
     let linked = rw (← c.first_of-ahead.ensures) at own in
     (entered_none (program (start heading)) c.args.self.now.chains.now.next c.args.o.0 l.result l.new.buffer _ (omega arith) linked, refl)
 
+pub body_of-body-requires : goal.body_of-body-requires
+body_of-body-requires c = (of_literal (goal.at.body_of-body-requires c).In-Some).below
+
 pub slice_bounds-write_fold-count : goal.slice_bounds-write_fold-count
 slice_bounds-write_fold-count c = omega (arith, room (goal.at.slice_bounds-write_fold-count c).In-Some)
 
@@ -126,7 +129,7 @@ slice_bounds-write_fold-start c = omega (arith, room (goal.at.slice_bounds-write
 pub write_fold-size-requires : goal.write_fold-size-requires
 write_fold-size-requires c =
     let turn = (goal.at.write_fold-size-requires c).In-Some in
-    let s = c.args.self.now in
+    let s = c.args.self.now.file.now in
     let at = c.loop-ahead in
     let body = c.body_of-body.ensures in
     let r = room turn in
@@ -134,7 +137,7 @@ write_fold-size-requires c =
     let o = one_length (rules turn) c.in-Some.fold.0 in
     let p = ap length (to_end at.end at.buffer) in
     let d = length-drop at.end at.buffer in
-    let short = few_body s.file.now s.contents c.requires.0.walked.answer c.in-Some.fold.0 (of_literal turn).below in
+    let short = few_body s.bytes.now s.contents s.walked.answer c.in-Some.fold.0 (of_literal turn).below in
     let f = few turn in
     (omega (arith, body.size), (omega arith, (omega (arith, body.size), omega (arith, body.size))))
 

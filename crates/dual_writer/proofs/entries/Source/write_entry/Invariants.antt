@@ -9,7 +9,7 @@ use Rattle.dual_writer.proofs.entries.Source.write_entry.Given as goal
 
 abbrev pub invariant-loop-ahead : goal.invariant-loop-ahead
 invariant-loop-ahead l =
-    Entered (program_in l.fn.self.file.now) l.fn.self.chains.now.next l.fn.o.0 l.initial.end l.initial.buffer l.buffer l.ahead l.end
+    Entered (program_in l.fn.self.file.now.bytes.now) l.fn.self.chains.now.next l.fn.o.0 l.initial.end l.initial.buffer l.buffer l.ahead l.end
     × (length l.buffer ≡ length l.initial.buffer)
 
 abbrev pub decreases-loop-ahead : goal.decreases-loop-ahead
