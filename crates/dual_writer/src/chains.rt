@@ -1,6 +1,6 @@
 // The folds by their heads: one pass over the rules links those of each objective literal, so that
 // no literal asks for a pass of its own.
-ghost use Rattle.std.specs.Prelude.{◌≡◌, ◌≤◌, ◌<◌, get_or, length, None};
+ghost use Rattle.std.specs.Prelude.{◌≡◌, ◌≤◌, ◌<◌, get_or, length, replicate, None};
 ghost use Rattle.papers.specs.Reading.{program_in};
 ghost use Rattle.dual_writer.specs.Chains.{Chain, ChainsOf, folds_at};
 
@@ -15,20 +15,24 @@ pub(crate) struct Chains {
 }
 
 impl Chains {
-    // From the last rule to the first, so that each chain rises.
-    pub(crate) fn of(file: &RuleFile) -> Chains
-        ensures { ChainsOf (program_in file.now.bytes.now) result.first result.next }
+    // No fold yet.
+    pub(crate) const CLEAR: Chains = Chains {
+        first: [None; 513],
+        next: [None; 1280],
+    };
+
+    // From the last rule to the first, so that each chain rises. Into chains that are clear: they are large, and as an answer they would be copied.
+    pub(crate) fn link(&mut self, file: &RuleFile)
+        requires { (self.old.first ≡ replicate 513 None) × (self.old.next ≡ replicate 1280 None) }
+        ensures { ChainsOf (program_in file.now.bytes.now) self.new.first self.new.next }
     {
-        let mut first = [None; 513];
-        let mut next = [None; 1280];
         for k in (0..file.fold_count()).rev() {
             let fold = Fold(k);
             let head = file.head_of(fold);
             let at = head.0;
-            next[k] = first[at];
-            first[at] = Some(fold);
+            self.next[k] = self.first[at];
+            self.first[at] = Some(fold);
         }
-        Chains { first, next }
     }
 
     // The first fold of an objective literal.

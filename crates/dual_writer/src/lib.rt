@@ -36,7 +36,8 @@ pub fn write_accepted(file: &RuleFile, dual: &mut [u8], allowed: bool) -> Result
     ensures { (written_told result ≡ dual_told (read_file file.now.bytes.now) (length dual.old))
         × (dual.new ≡ cond allowed (dual_after (read_file file.now.bytes.now) dual.old) dual.old) }
 {
-    let chains = Chains::of(file);
+    let mut chains = Chains::CLEAR;
+    chains.link(file);
     let source = Source {
         file,
         chains: &chains,

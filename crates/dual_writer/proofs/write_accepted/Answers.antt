@@ -12,7 +12,7 @@ use Rattle.dual.proofs.FilledLaws.{put_end}
 use Rattle.dual_writer.specs.Chains.{Chained}
 use Rattle.dual_writer.proofs.TableWriting.{table_length, end_written, dual_short, dual_length_is, dual_fits}
 use Rattle.dual_writer.proofs.write_accepted.Goals as goal
-use Rattle.dual_writer.proofs.write_accepted.Goals.{After-of-chains, After-write_entries-end, Start}
+use Rattle.dual_writer.proofs.write_accepted.Goals.{After-link, After-write_entries-end, Start}
 
 -- ---- what the file says
 
@@ -25,8 +25,8 @@ module _ (c : Start) where
 
 -- ---- once the folds are chained
 
-linked : (c : After-of-chains) → Chained c.args.file.now c.of-chains.result
-linked c = record { chains = c.of-chains.ensures }
+linked : (c : After-link) → Chained c.args.file.now c.link.new.self
+linked c = record { chains = c.link.ensures }
 
 -- ---- once the entries are written
 

@@ -1,4 +1,4 @@
--- `dual_writer::chains::Chains::of` meets its contract. The loop's invariant: the rules from here on are linked.
+-- `dual_writer::chains::Chains::link` meets its contract. The loop's invariant: the rules from here on are linked.
 use mathlib.Core.Path.{◌≡◌}
 use mathlib.Core.List.{List}
 use Prim.Native.Nat.{◌+◌, ◌-◌, ◌≤◌, ◌<◌}
@@ -8,8 +8,8 @@ use Rattle.papers.specs.Program.{Rule, all_rules}
 use Rattle.papers.specs.Reading.{program_in}
 use Rattle.papers.proofs.FoldsWalked.{rules_counted, few_folds}
 use Rattle.dual_writer.proofs.ChainLaws.{linked_none, linked_more, linked_all}
-use Rattle.dual_writer.proofs.chains.Chains.of.Goals as goal
-use Rattle.dual_writer.proofs.chains.Chains.of.Goals.{In-loop-k, Start}
+use Rattle.dual_writer.proofs.chains.Chains.link.Goals as goal
+use Rattle.dual_writer.proofs.chains.Chains.link.Goals.{In-loop-k, Start}
 
 -- ---- what the file says
 
@@ -38,7 +38,7 @@ pub loop-k-init : goal.loop-k-init
 loop-k-init c =
     let start = (goal.at.loop-k-init c).Start in
     let n = c.fold_count-k.ensures in
-    rw n (linked_none (rules start) (omega (arith, few start)))
+    rw (n, c.requires.0, c.requires.1) (linked_none (rules start) (omega (arith, few start)))
 
 pub head_of-head-requires : goal.head_of-head-requires
 head_of-head-requires c = below (goal.at.head_of-head-requires c).In-loop-k
@@ -48,11 +48,11 @@ loop-k-preserved c =
     let turn = (goal.at.loop-k-preserved c).In-loop-k in
     let l = c.loop-k in
     let e : l.k ≡ l.k - 1 + 1 = omega arith in
-    linked_more (rules (goal.at.loop-k-preserved c).Start) (record { 0 = l.k - 1 }) (below turn) l.first l.next (few_here turn) (rw e at l.invariant)
+    linked_more (rules (goal.at.loop-k-preserved c).Start) (record { 0 = l.k - 1 }) (below turn) l.self.first l.self.next (few_here turn) (rw e at l.invariant)
     c.head_of-head.ensures.0 c.head_of-head.ensures.1
 
 pub returns : goal.returns
 returns c =
     let l = c.loop-k in
     let e : l.k ≡ 0 = omega arith in
-    linked_all (program_in c.args.file.now.bytes.now) l.first l.next (rw e at l.invariant)
+    linked_all (program_in c.args.file.now.bytes.now) l.self.first l.self.next (rw e at l.invariant)
