@@ -11,7 +11,7 @@ use lanes::words::{other_lanes, word_of};
 use literals::bodies::body_literal;
 use sets::fill_words;
 
-// The lanes in which one of a clause's literals holds.
+// The lanes in which one of a clause's literals holds. Not one with `body_word`: a body needs all of its literals, and so begins, joins and ends otherwise.
 fn clause_word(clause: &[u16], truth: &[u64; 513], falses: &[u64; 513]) -> u64
     requires { Literals 513 clause.now }
     ensures { SomeWord clause.now truth.now falses.now result }

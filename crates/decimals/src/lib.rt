@@ -42,7 +42,15 @@ impl<'a> Printer<'a> {
         requires { self.old.at + length text.now < 2 ^ 63 }
         ensures { Printed text.now self.old self.new }
     {
-        for &byte in text.as_bytes() {
+        self.put_bytes(text.as_bytes());
+    }
+
+    // Bytes that need be no text.
+    pub fn put_bytes(&mut self, bytes: &[u8])
+        requires { self.old.at + length bytes.now < 2 ^ 63 }
+        ensures { Printed bytes.now self.old self.new }
+    {
+        for &byte in bytes {
             self.put_byte(byte);
         }
     }

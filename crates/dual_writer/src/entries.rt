@@ -37,8 +37,8 @@ impl<'a> Source<'a> {
     // The bytes of an objective literal's entry, by its rules; none where one of them is a fact.
     fn rules_length(&self, o: Objective) -> Option<usize>
         requires { Stands self.now × (o.0 < 513) }
-        ensures { (result
-            ≡ cond (is_fact (all_rules (program_in self.now.file.now.bytes.now)) o.0) None (Some (5 + rules_length (all_rules (program_in self.now.file.now.bytes.now)) o.0)))
+        ensures { (result ≡ cond (is_fact (all_rules (program_in self.now.file.now.bytes.now)) o.0) None
+            (Some (5 + rules_length (all_rules (program_in self.now.file.now.bytes.now)) o.0)))
             × IfSome result (λ size. size < 65536) }
     {
         let mut total: usize = 5;
@@ -57,7 +57,8 @@ impl<'a> Source<'a> {
     // The bytes of an objective literal's entry, if it has one.
     fn entry_length(&self, o: Objective) -> Option<usize>
         requires { Stands self.now × (o.0 < 513) }
-        ensures { (result ≡ cond (has_entry (program_in self.now.file.now.bytes.now) o.0) (Some (5 + rules_length (all_rules (program_in self.now.file.now.bytes.now)) o.0)) None)
+        ensures { (result ≡ cond (has_entry (program_in self.now.file.now.bytes.now) o.0)
+            (Some (5 + rules_length (all_rules (program_in self.now.file.now.bytes.now)) o.0)) None)
             × IfSome result (λ size. size < 65536) }
     {
         if is_abducible(self.file, o) {
@@ -73,6 +74,7 @@ impl<'a> Source<'a> {
     {
         let judged = literals::judged(self.file.contents.atoms);
         let mut total: usize = 0;
+        // A number of the problem: the objective literal.
         for o in 0..judged {
             total += self.entry_length(Objective(o)).unwrap_or(0);
         }
@@ -116,6 +118,7 @@ impl<'a> Source<'a> {
     {
         let judged = literals::judged(self.file.contents.atoms);
         let mut end: usize = 0;
+        // A number of the problem: the objective literal.
         for o in 0..judged {
             let size = self.write_any_entry(&mut buffer[end..], Objective(o));
             end += size;

@@ -41,6 +41,7 @@ use trying::Report;
 // Word 1 of a refusal of a text; that of a paper is `paper_number`.
 const TEXT: u64 = 2;
 
+// By hand, as `state_number`: the numbers are those of include/finder.h.
 fn paper_number(paper: Paper) -> u64
     ensures { result ≡ paper_number paper }
 {

@@ -12,6 +12,7 @@ use decimals::Printer;
 use literals::Atom;
 use numbered::atom_at;
 
+// By hand: what is printed of an abducible hangs on the scenario.
 #[tactic(auto, using(crate::proofs::Items::sign_assumed, crate::proofs::Items::sign_other))]
 fn sign(digit: u32) -> u8
     ensures { result ≡ sign_of digit }

@@ -53,6 +53,7 @@ impl<'a> Search<'a> {
     // The next row that a row depends on and that was not met; its number is the row's place then.
     fn advance(&mut self, row: usize) -> Option<usize> {
         let place = (*self.places.get(row)?)?;
+        // By index: what lies past the end of the array is asked for, too.
         for at in usize::from(place)..self.row_end(row) {
             let number = get(self.entries, at, 0);
             if self.leads_on(number) {
@@ -90,6 +91,7 @@ pub(crate) fn finishing_order(entries: &[u16], starts: &[u16], order: &mut [u16]
         order,
         closed: 0,
     };
+    // A number of the problem: the row.
     for row in 0..count {
         search.visit(row);
     }

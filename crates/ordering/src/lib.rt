@@ -16,6 +16,7 @@ use numbers::lay;
 
 // The place of each row in an order.
 fn invert(order: &[u16], ranks: &mut [u16], count: usize) {
+    // An index: it is what is laid.
     for i in 0..count {
         lay(ranks, get(order, i, 0), i);
     }
@@ -26,6 +27,7 @@ fn is_order(order: &[u16], ranks: &[u16], count: usize) -> bool
     requires { (count ≤ length order.now) × (count ≤ length ranks.now) }
     ensures { result ≡ true → Ordered count order.now ranks.now }
 {
+    // An index: the test is of the place.
     for k in 0..count {
         let row = usize::from(order[k]);
         let rank = usize::from(ranks[k]);
@@ -41,6 +43,7 @@ fn count_up(numbers: &mut [u16], count: usize)
     requires { (count ≤ 1280) × (count ≤ length numbers.old) }
     ensures { Written own count numbers.old numbers.new }
 {
+    // An index: it is what is written.
     for i in 0..count {
         numbers[i] = i as u16;
     }
@@ -65,6 +68,7 @@ fn visit(order: &[u16], starts: &[u16], visits: &mut [u16], count: usize)
         × ((k : ℕ) → k < count → get_or order.now k 0 < count))) }
     ensures { Written (start_at order.now starts.now) count visits.old visits.new }
 {
+    // An index: the order is read and the visits are written at it.
     for i in 0..count {
         let row = usize::from(order[i]);
         visits[i] = starts[row];

@@ -79,7 +79,8 @@ module _ (n : ℕ) (left : List ℕ) where
     unfolding literals_fault
     literals_stop in_body h = rw (one, h)
 
-    pub literals_next : (in_body : Bool) → literal_allowed in_body n l ≡ true → literals_fault in_body n (numbers left) ≡ literals_fault in_body n (numbers more)
+    pub literals_next :
+        (in_body : Bool) → literal_allowed in_body n l ≡ true → literals_fault in_body n (numbers left) ≡ literals_fault in_body n (numbers more)
     unfolding literals_fault
     literals_next in_body h = rw (one, h)
 

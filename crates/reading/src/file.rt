@@ -30,6 +30,7 @@ pub(crate) fn read_atoms(file: &[u8]) -> Result<u16, Refusal>
     if atoms < 1 || 256 < atoms {
         return Err(Fault::AtomCount.at(Paper::File, 4));
     }
+    // The test before bounds it: `try_from` would have a refusal that cannot come.
     Ok(atoms as u16)
 }
 

@@ -25,6 +25,7 @@ pub fn write_heading(page: &mut Printer, atoms: u64, abducibles: u64, scenarios:
     page.put_byte(b'\n');
 }
 
+// Words by hand: a `write!` may fail by its contract, and these lines cannot.
 #[tactic(auto, unfolding(crate::specs::Lines::state_word))]
 fn state_word(state: State) -> &'static str
     ensures word { result.now ≡ state_word state }

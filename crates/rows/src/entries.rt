@@ -108,7 +108,7 @@ fn decode_entry(
     reached
 }
 
-// The entries of all objective literals, falsum's last, and where each row starts.
+// The entries of all objective literals, falsum's last, and where each row starts. Not one with `decode_rules`: entries follow one another.
 pub fn decode_dual(file: &[u8], dual: &[u8], count: usize, numbers: &mut [u16], starts: &mut [u16])
     requires { DualStarts (program_in file.now) dual.now
         × ((count ≡ judged (program_in file.now).atoms) × ((28000 ≤ length numbers.old) × (513 ≤ length starts.old))) }
@@ -116,6 +116,7 @@ pub fn decode_dual(file: &[u8], dual: &[u8], count: usize, numbers: &mut [u16], 
         × Starts (entry_rows (program_in file.now)) starts.old starts.new }
 {
     let mut reached = Reached { place: 0, at: 0 };
+    // A number of the problem: the objective literal.
     for o in 0..count {
         starts[o] = reached.at as u16;
         reached = decode_entry(file, dual, Objective(o), reached, numbers);

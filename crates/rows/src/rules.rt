@@ -35,6 +35,7 @@ pub fn decode_rules(file: &RuleFile, numbers: &mut [u16], starts: &mut [u16])
 {
     let count = file.fold_count();
     let mut at: usize = 0;
+    // A number of the problem: the fold.
     for fold in 0..count {
         starts[fold] = at as u16;
         at = decode_rule(file, Fold(fold), numbers, at);

@@ -42,7 +42,7 @@ impl From<DualError> for ContinueError {
     }
 }
 
-// Both papers are accepted, the query with so many literals.
+// Both papers are accepted, the query with so many literals. What C lends comes one by one.
 fn continue_accepted(
     file: &[u8],
     sheet: &[u8],

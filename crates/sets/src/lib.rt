@@ -8,7 +8,7 @@ ghost use Rattle.lanes.specs.Lanes.{Written};
 ghost use Rattle.lanes.specs.Words.{other_word, joined_word, same_word};
 ghost use Rattle.sets.specs.Writing.{WrittenBy};
 
-// The first words of a lent row, each by a function of its number.
+// The first words of a lent row, each by a function of its number. A count: a row has room for the most literals of any file.
 pub fn write_words<F: Fn(usize) -> u64>(words: &mut [u64; 513], count: usize, word: F)
     requires few { count ≤ 513 }
     requires callable { (o : ℕ) → o < count → F.pre word o }

@@ -104,7 +104,7 @@ impl DecodedFile<'_> {
         }
     }
 
-    // F(j+1) from the dual and T(j); where T has not moved it stands already.
+    // F(j+1) from the dual and T(j); where T has not moved it stands already. Not one with `next_true`: the steps of each are its own.
     fn next_false(
         &self,
         abducible: &Words,

@@ -52,7 +52,7 @@ fn passed_over(count: u32, before: Progress) -> Progress
     }
 }
 
-// A search over decoded papers with some faults held, where there are `total` scenarios.
+// A search over decoded papers with some faults held, where there are `total` scenarios. What it needs is of a call's progress too, so the clauses say it.
 #[derive(Clone, Copy)]
 struct Search<'a> {
     papers: AskedFile<'a>,

@@ -18,7 +18,7 @@ fn value_byte(held: bool, failed: bool) -> u8
     }
 }
 
-// The bytes of the first lane, into the start of a lent buffer.
+// The bytes of the first lane, into the start of a lent buffer. A count: a row has room for the most literals of any file.
 pub(crate) fn write_values(model: &mut [u8], trues: &[u64; 513], falses: &[u64; 513], count: usize)
     requires { (count ≤ 513) × (count ≤ length model.old) }
     ensures { model.new ≡ filled (value_bytes (lane count 0 trues.now) (lane count 0 falses.now)) model.old }

@@ -13,7 +13,7 @@ use lanes::words::body_word;
 use preparing::prepare;
 use settling::{DecodedFile, Words};
 
-// The lanes in which one of the first literals is both true and false.
+// The lanes in which one of the first literals is both true and false. A count: a row has room for the most literals of any file.
 fn both_lanes(trues: &[u64; 513], falses: &[u64; 513], count: usize) -> u64
     requires { count ≤ 513 }
     ensures { BothLanes count trues.now falses.now result }
@@ -44,7 +44,8 @@ pub struct Verdicts {
     pub rounds: [u64; 64],
 }
 
-// Accepted papers: a file with where its folds stand, the dual in its buffer, and the bytes of the query.
+// Accepted papers: a file with where its folds stand, the dual in its buffer, and the bytes of the query. Where each entry of the dual starts is a part of
+// what the clauses say of it, and no ghost field holds data.
 #[derive(Clone, Copy)]
 pub struct AcceptedPapers<'a> {
     pub file: &'a RuleFile<'a>,

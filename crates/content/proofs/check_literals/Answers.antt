@@ -12,7 +12,8 @@ pub loop-pair-init : goal.loop-pair-init
 loop-pair-init c =
     let x = c.chunks_exact-pair-items.ensures in
     let e = c.into_iter-pair-iterator.ensures.into_iter_gives in
-    (ap (λ s. chunks_exact_size s) e ∙ x.size, ap (λ l. literals_fault c.args.in_body c.args.atoms (numbers l)) (sym (ap (λ s. chunks_exact_rest s) e ∙ x.rest)))
+    let left = sym (ap (λ s. chunks_exact_rest s) e ∙ x.rest) in
+    (ap (λ s. chunks_exact_size s) e ∙ x.size, ap (λ l. literals_fault c.args.in_body c.args.atoms (numbers l)) left)
 
 pub is_allowed-requires : goal.is_allowed-requires
 is_allowed-requires c = let two = c.in-Some.ensures.steps.1.1 ∙ c.loop-pair.invariant.0 in omega arith

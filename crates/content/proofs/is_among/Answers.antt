@@ -26,9 +26,10 @@ returns-then-eq c =
 
 pub loop-pair-preserved : goal.loop-pair-preserved
 loop-pair-preserved c =
-    let s = c.in-Some.ensures.steps in (
+    let s = c.in-Some.ensures.steps in
+    let other = eqb-false _ _ (sym c.eq.ensures ∙ c.if-eq.false) in (
       s.0 ∙ c.loop-pair.invariant.0,
-      c.loop-pair.invariant.1 ∙ among_next c.args.atom.0 _ _ _ s.1.0 (s.1.1 ∙ c.loop-pair.invariant.0) c.atom_at.ensures (eqb-false _ _ (sym c.eq.ensures ∙ c.if-eq.false)),
+      c.loop-pair.invariant.1 ∙ among_next c.args.atom.0 _ _ _ s.1.0 (s.1.1 ∙ c.loop-pair.invariant.0) c.atom_at.ensures other,
     )
 
 pub returns : goal.returns
