@@ -31,8 +31,15 @@ pub fn word_of(l: BodyLiteral, set: &[u64; 513], negated: &[u64; 513]) -> u64
     ensures { result ≡ word_of l set.now negated.now }
 {
     match l {
-        BodyLiteral::Is(literal) if is_default_negated(literal) => negated[objective_of(literal).0],
-        BodyLiteral::Is(literal) => set[objective_of(literal).0],
+        // One read of the row that is picked: two reads would be a branch that cannot be foretold.
+        BodyLiteral::Is(literal) => {
+            let row = if is_default_negated(literal) {
+                negated
+            } else {
+                set
+            };
+            row[objective_of(literal).0]
+        }
         BodyLiteral::Undefined => 0,
     }
 }
