@@ -21,7 +21,7 @@ pub trait Rows {
         ensures goes_on { Passing left_over words.old words.new result };
 }
 
-// Each row once, and whether one of them changed a word.
+// Each row once, and whether one of them changed a word. The visits are no field of the rows: those of a part are a part of them.
 fn pass<R: Rows>(rows: &R, visits: &[u16], words: &mut [u64; 513]) -> bool
     requires { (i : ℕ) → i < length visits.now → R.Stands rows.now (place_of (get_or visits.now i 0)) }
     ensures does { Ran (R.Puts rows.now) visits.now words.old (length visits.now) words.new result }

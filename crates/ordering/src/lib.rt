@@ -14,7 +14,7 @@ use counting::sort_by_rank;
 use depth::finishing_order;
 use numbers::lay;
 
-// The place of each row in an order.
+// The place of each row in an order. Here and below the count is lent with the slices, since these may be longer.
 fn invert(order: &[u16], ranks: &mut [u16], count: usize) {
     // An index: it is what is laid.
     for i in 0..count {

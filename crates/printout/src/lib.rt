@@ -27,7 +27,7 @@ fn write_found_lines(page: &mut Printer, entries: &[u32], abducibles: &[u8])
     }
 }
 
-// Both papers are accepted.
+// Both papers are accepted. They are handed on as they were lent: each call of the search reads them.
 fn write_accepted(
     page: &mut Printer,
     file: &[u8],
