@@ -73,7 +73,7 @@ fn put_words(row: &mut [u64; 513], atom: Atom, itself: u64, negation: u64)
     row[literals::negative(atom).0] = negation;
 }
 
-// The true and the false abducible literals of 64 scenarios, in the words of the judged literals. Of the file's contents alone: where its folds stand is not asked.
+// The true and the false abducible literals of 64 scenarios, in the words of the judged literals. Where the file's folds stand is not asked.
 pub fn abducible_lanes(
     file: &[u8],
     contents: Contents,
