@@ -1,9 +1,10 @@
 // One field: one-byte tag, two-byte length, content.
 #![tactic(auto)]
 
-ghost use Rattle.std.specs.Prelude.{◌≡◌, ◌≤◌, length, drop, slice_get};
+ghost use Rattle.std.specs.Prelude.{◌≡◌, ◌+◌, ◌≤◌, length, drop, slice_get, IfOk};
 ghost use Rattle.papers.specs.Field.{fewest, most, length_allowed, field_fault, read_field};
 ghost use Rattle.papers.specs.Told.{check_told, read_told, value_told};
+ghost use Rattle.papers.specs.Answers.{part_start};
 
 use numbered::number_at;
 use papers::{Fault, Paper, Refusal, tags};
@@ -74,7 +75,7 @@ fn check_field(bytes: &[u8], tag: u8, full: bool, place: usize) -> Result<(), Fa
     Ok(())
 }
 
-// The content of the field of this tag at a place of a paper.
+// The content of the field of this tag at a place of a paper: the part of it that begins three bytes after.
 pub fn read_field(
     bytes: &[u8],
     paper: Paper,
@@ -83,7 +84,8 @@ pub fn read_field(
     place: usize,
 ) -> Result<&[u8], Refusal>
     requires { place ≤ length bytes.now }
-    ensures { value_told (λ content. content.now) result ≡ read_told (λ l. l) (read_field paper tag full place bytes.now) }
+    ensures told { value_told (λ content. content.now) result ≡ read_told (λ l. l) (read_field paper tag full place bytes.now) }
+    ensures stands { IfOk result (λ content. content.ref_ptr ≡ part_start bytes.entry (place + 3)) }
 {
     check_field(bytes, tag, full, place).map_err(|fault| fault.at(paper, place))?;
     let start = place + 3;

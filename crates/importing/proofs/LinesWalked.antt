@@ -5,8 +5,9 @@ use mathlib.Core.List.{List, [], ◌∷◌, ◌++◌, map, append_assoc, append-
 use Prim.Native.Nat.{ℕ, ◌≤◌}
 use native.Mathlib.Omega.{arith}
 use lib.ListN.{length}
-use Rattle.std.proofs.Common.{Option, None, Ok}
+use Rattle.std.proofs.Common.{Option, None, Some, Result, Ok, Err}
 use Rattle.text.specs.Lines.{TextRefusal}
+use Rattle.text.specs.declared.TextRefusal as answer
 use Rattle.text.specs.declared.line.Brief.{Brief}
 use Rattle.text.specs.Lines.{Reading, accepted, refused, and_then, Line, fresh, lines_of}
 use Rattle.text.specs.Typed.{Placed, its}
@@ -75,3 +76,13 @@ module _ (text : List ℕ) (typed : Typed text) where
 
   pub no_refusal : {X : Type 0} {r : TextRefusal} → lines_of text ≡ refused r → X
   no_refusal e = refused_not (sym e ∙ typed)
+
+  -- What is read is no line: the lines are over.
+  pub lines_end : {done : List Line} {at : ℕ} → LinesRead text done at → (got : Result (Option (Brief × ℕ)) answer.TextRefusal) → LineTells text fresh at got
+      → ((line : Brief × ℕ) → got ≡ Ok (Some line) → ⊥) → lines_of text ≡ accepted done
+  lines_end {done} {at} g got told k = go got refl
+    where
+      go : (x : Result (Option (Brief × ℕ)) answer.TextRefusal) → got ≡ x → lines_of text ≡ accepted done
+      go (Ok (Some line)) e = absurd (k line e)
+      go (Ok None) e = lines_over g (rw e at told)
+      go (Err r) e = no_refusal (lines_refused g (rw e at told))

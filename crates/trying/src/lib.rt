@@ -34,6 +34,7 @@ fn batch_size(most: u32, tried: u32, allowance: u32, position: u32, total: u32) 
 }
 
 // How many scenarios can be tried at once: all of a run of which none agrees, and else as many as there are lanes.
+// A run of 0 is one of no scenario, and none that is missing.
 fn span(run: u32) -> u32
     ensures { result ≡ span_of run }
 {

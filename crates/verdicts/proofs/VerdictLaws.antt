@@ -4,7 +4,7 @@ use mathlib.Core.Path.{◌≡◌, sym, ap, ap₂, ◌∙◌}
 use mathlib.Core.Bool.{Bool, false, not}
 use mathlib.Core.List.{List}
 use mathlib.Core.Logic.{inl}
-use Prim.Native.Nat.{ℕ, ◌+◌, ◌-◌, ◌≤◌, ◌<◌}
+use Prim.Native.Nat.{ℕ, ◌+◌, ◌≤◌, ◌<◌}
 use native.Mathlib.Omega.{arith}
 use lib.Bits.{bit_and, bit_or}
 use lib.ListN.{get_or, take}
@@ -21,12 +21,12 @@ use Rattle.model.specs.Sets.{has, flags_from}
 use Rattle.model.specs.LeastSet.{body_holds}
 use Rattle.model.specs.Model.{value_bytes, contradictory}
 use Rattle.lanes.specs.Lanes.{lane_bit, lane}
-use Rattle.lanes.specs.Words.{Literals, BodyWord}
+use Rattle.lanes.specs.Words.{OtherLanes, Literals, BodyWord}
 use Rattle.settling.specs.RoundLanes.{SettledLanes}
 use Rattle.settling.proofs.DecodedLaws.{decoded_atoms}
 use Rattle.verdicts.specs.declared.AskedFile.{AskedFile}
 use Rattle.verdicts.specs.VerdictLanes.{DecodedPapers, BothLanes, ExplainedWord, VerdictLanes}
-use Rattle.lanes.proofs.LaneLaws.{lane_and, lane_or, lane_not, lane_none, has_lane}
+use Rattle.lanes.proofs.LaneLaws.{lane_and, lane_or, lane_none, has_lane}
 use Rattle.model.proofs.ByteLaws.{contradictory_grown, explains_is}
 
 -- The lanes of a contradiction, as the loop over the words gathers them.
@@ -44,19 +44,17 @@ both_more count trues falses word o t f h e g b = rw (e, g, get_or-take count tr
       ∙ sym (contradictory_grown (λ i. lane_bit l (get_or trues i 0)) (λ i. lane_bit l (get_or falses i 0)) o);
 }
 
-pub explained_word : (n o : ℕ) (query trues falses : List ℕ) (holding both : ℕ) → o ≡ falsum n → Literals (judged n) query
-    → get_or trues o 0 < 18446744073709551616 → both < 18446744073709551616
-    → BodyWord query trues falses (bit_and (18446744073709551615 - get_or trues o 0) (get_or falses o 0)) holding
-    → BothLanes (judged n) trues falses both → ExplainedWord n query trues falses (bit_and holding (18446744073709551615 - both))
-explained_word n o query trues falses holding both e q k m b c = record {
+pub explained_word : (n o : ℕ) (query trues falses : List ℕ) (other holding both consistent : ℕ) → o ≡ falsum n → Literals (judged n) query
+    → OtherLanes (get_or trues o 0) other → BodyWord query trues falses (bit_and other (get_or falses o 0)) holding
+    → BothLanes (judged n) trues falses both → OtherLanes both consistent → ExplainedWord n query trues falses (bit_and holding consistent)
+explained_word n o query trues falses other holding both consistent e q k b m c = record {
   at = λ l h.
-      lane_and l holding (18446744073709551615 - both)
+      lane_and l holding consistent
       ∙ ap₂ ◌and◌
       (b.in_lane (judged n) q l
       ∙ ap (λ (x : Bool). x and body_holds false (lane (judged n) l trues) (lane (judged n) l falses) query)
-      (lane_and l (18446744073709551615 - get_or trues o 0) (get_or falses o 0)
-      ∙ ap₂ ◌and◌ (lane_not l (get_or trues o 0) h k ∙ ap not (there l trues)) (there l falses)))
-      (lane_not l both h m ∙ ap not (c.at l))
+      (lane_and l other (get_or falses o 0) ∙ ap₂ ◌and◌ (k.at l h ∙ ap not (there l trues)) (there l falses)))
+      (c.at l h ∙ ap not (m.at l))
       ∙ and_assoc _ (body_holds false (lane (judged n) l trues) (lane (judged n) l falses) query) _;
 }
   where

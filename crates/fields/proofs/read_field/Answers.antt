@@ -7,8 +7,8 @@ use Rattle.papers.proofs.FieldTests.{field_refused, field_heading, field_within,
 use Rattle.papers.proofs.ReadersGot.{check_passed, check_failed, mapped_passed, mapped_failed, ok_told, err_told}
 use Rattle.fields.proofs.read_field.Goals as goal
 
-pub returns-in_err-map_err : goal.returns-in_err-map_err
-returns-in_err-map_err c =
+pub returns-in_err-map_err-clause-told : goal.returns-in_err-map_err-clause-told
+returns-in_err-map_err-clause-told c =
     let a = c.args in
     let m = mapped_failed c.check_field.result _ _ c.in_err-map_err.ensures.cases in
     let at : c.in_err-map_err.field-0.0 ≡ record { fault = m.0; paper = a.paper; place = a.place } = search (rules, m.2) in
@@ -27,8 +27,8 @@ slice_bounds-result-end c =
     let none = check_passed c.check_field.ensures (mapped_passed _ c.in_ok-map_err.ensures.variant) in
     field_within a.paper _ _ a.place a.bytes.now none c.number_at.ensures.0
 
-pub returns : goal.returns
-returns c =
+pub returns-clause-told : goal.returns-clause-told
+returns-clause-told c =
     let a = c.args in
     let none = check_passed c.check_field.ensures (mapped_passed _ c.in_ok-map_err.ensures.variant) in
     ok_told _ _ _ (record { value = _; is = field_content a.paper _ _ a.place a.bytes.now none c.number_at.ensures.0; tells_it = refl })

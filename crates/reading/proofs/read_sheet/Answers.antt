@@ -17,7 +17,7 @@ use Rattle.reading.proofs.read_sheet.Goals as goal
 use Rattle.reading.proofs.read_sheet.Goals.{In_ok-query, In_ok-map_err}
 
 field : (c : In_ok-query) → Got Sheet 0x06 false 0 c.args.sheet.now c.in_ok-query.query.now
-field c = got_content _ _ _ _ _ c.read_field.ensures c.in_ok-query.was
+field c = got_content _ _ _ _ _ c.read_field.ensures.told c.in_ok-query.was
 
 none : (c : In_ok-map_err) → literals_fault false c.args.atoms (numbers c.in_ok-query.query.now) ≡ 0
 none c = check_passed c.check_literals.ensures (mapped_passed _ c.in_ok-map_err.ensures.variant)
@@ -25,7 +25,7 @@ none c = check_passed c.check_literals.ensures (mapped_passed _ c.in_ok-map_err.
 pub returns-in_err-query : goal.returns-in_err-query
 unfolding read_sheet
 returns-in_err-query c =
-    let e = got_refused _ _ (read_field Sheet 0x06 false 0 c.args.sheet.now) c.read_field.ensures c.in_err-query.was in
+    let e = got_refused _ _ (read_field Sheet 0x06 false 0 c.args.sheet.now) c.read_field.ensures.told c.in_err-query.was in
     handed_on _ _ _ _ _ c.from_residual.ensures.1 (rw e)
 
 pub returns-in_err-map_err : goal.returns-in_err-map_err

@@ -16,7 +16,7 @@ use Rattle.reading.proofs.file.read_atoms.Goals as goal
 use Rattle.reading.proofs.file.read_atoms.Goals.{In_ok-content, then-atoms-lt1-via-then-atoms-lt1, then-atoms-lt1-via-else-atoms-lt1+then-atoms-gt256}
 
 field : (c : In_ok-content) → Got File 0x02 false 4 c.args.file.now c.in_ok-content.content.now
-field c = got_content _ _ _ _ _ c.read_field.ensures c.in_ok-content.was
+field c = got_content _ _ _ _ _ c.read_field.ensures.told c.in_ok-content.was
 
 -- Its content is one two-byte number.
 pair : (c : In_ok-content) → 1 < length c.in_ok-content.content.now
@@ -26,7 +26,7 @@ pair c = omega (arith, (pairs_length 0x02 _ (λ e. omega arith) (field c).whole.
 pub returns-in_err-content : goal.returns-in_err-content
 unfolding read_atoms
 returns-in_err-content c =
-    let e = got_refused _ _ (read_field File 0x02 false 4 c.args.file.now) c.read_field.ensures c.in_err-content.was in
+    let e = got_refused _ _ (read_field File 0x02 false 4 c.args.file.now) c.read_field.ensures.told c.in_err-content.was in
     handed_on _ _ _ _ _ c.from_residual.ensures.1 (rw e)
 
 pub number_at-atoms-requires : goal.number_at-atoms-requires

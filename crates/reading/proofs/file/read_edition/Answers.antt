@@ -13,12 +13,12 @@ use Rattle.reading.proofs.file.read_edition.Goals as goal
 use Rattle.reading.proofs.file.read_edition.Goals.{In_ok-content}
 
 field : (c : In_ok-content) → Got File 0x01 false 0 c.args.file.now c.in_ok-content.content.now
-field c = got_content _ _ _ _ _ c.read_field.ensures c.in_ok-content.was
+field c = got_content _ _ _ _ _ c.read_field.ensures.told c.in_ok-content.was
 
 pub returns-in_err-content : goal.returns-in_err-content
 unfolding read_edition
 returns-in_err-content c =
-    let e = got_refused _ _ (read_field File 0x01 false 0 c.args.file.now) c.read_field.ensures c.in_err-content.was in
+    let e = got_refused _ _ (read_field File 0x01 false 0 c.args.file.now) c.read_field.ensures.told c.in_err-content.was in
     handed_on _ _ _ _ _ c.from_residual.ensures.1 (rw e)
 
 pub bounds-content-0 : goal.bounds-content-0

@@ -10,13 +10,13 @@ use Rattle.reading.proofs.file.read_end.Goals as goal
 use Rattle.reading.proofs.file.read_end.Goals.{In_ok-read_field}
 
 field : (c : In_ok-read_field) → Got c.args.paper 0x7F false c.args.place c.args.bytes.now c.in_ok-read_field.field-0.now
-field c = got_content _ _ _ _ _ c.read_field.ensures c.in_ok-read_field.was
+field c = got_content _ _ _ _ _ c.read_field.ensures.told c.in_ok-read_field.was
 
 pub returns-in_err-read_field : goal.returns-in_err-read_field
 unfolding read_end
 returns-in_err-read_field c =
     let a = c.args in
-    let e = got_refused _ _ (read_field a.paper 0x7F false a.place a.bytes.now) c.read_field.ensures c.in_err-read_field.was in
+    let e = got_refused _ _ (read_field a.paper 0x7F false a.place a.bytes.now) c.read_field.ensures.told c.in_err-read_field.was in
     handed_on _ _ _ _ _ c.from_residual.ensures.1 (rw e)
 
 pub returns-then-bytes-after : goal.returns-then-bytes-after

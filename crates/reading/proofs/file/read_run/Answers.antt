@@ -56,7 +56,7 @@ module _ (c : In_ok-content) where
   room = c.args.limit - (count asked + 1)
 
   field : Got File c.args.tag (eqb (count asked) c.args.limit) (next asked) (file asked) content
-  field = got_content _ _ _ _ _ c.read_field.ensures c.in_ok-content.was
+  field = got_content _ _ _ _ _ c.read_field.ensures.told c.in_ok-content.was
 
   -- So there was room for it.
   more : count asked < c.args.limit
@@ -89,7 +89,7 @@ returns-in_err-content c =
     let here = (goal.at.returns-in_err-content c).After-read_field in
     let few = c.loop-place.invariant.few in
     let full = eqb (count here) a.limit in
-    let e = got_refused _ _ (read_field File a.tag full (next here) (file here)) c.read_field.ensures c.in_err-content.was in
+    let e = got_refused _ _ (read_field File a.tag full (next here) (file here)) c.read_field.ensures.told c.in_err-content.was in
     handed_on _ _ _ _ _ c.from_residual.ensures.1
     (run_refused a.tag a.atoms _ (file here) (next here) (tagged here) (a.limit - count here) full (λ z. eq-eqb (count here) a.limit (omega arith))
     (λ z. ne_eqb (count here) a.limit (λ e. z (omega arith))) e)
