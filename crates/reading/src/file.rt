@@ -1,4 +1,5 @@
-// The readers of a paper's fields, in the order in which they stand there.
+// The readers of a paper's fields, in the order in which they stand there. Each field read is taken apart by let .. else, the form that document 01 names
+// for it; its other branch hands the refusal on.
 ghost use Rattle.std.specs.Prelude.{◌≡◌, ◌≤◌, ◌<◌, length};
 ghost use Rattle.papers.specs.Field.{numbers};
 ghost use Rattle.papers.specs.Reading.{read_edition, read_atoms, read_abducibles, first_rule, read_run, read_end, read_rules};
@@ -13,7 +14,10 @@ use papers::{Contents, Fault, Fields, Paper, Refusal, Run, tags};
 pub(crate) fn read_edition(file: &[u8]) -> Result<u8, Refusal>
     ensures { result_told result ≡ read_told (λ n. n) (read_edition file.now) }
 {
-    let content = read_field(file, Paper::File, tags::EDITION, false, 0)?;
+    let read = read_field(file, Paper::File, tags::EDITION, false, 0);
+    let Ok(content) = read else {
+        return Err(read.unwrap_err());
+    };
     let edition = content[0];
     if edition != 1 {
         return Err(Fault::Edition.at(Paper::File, 0));
@@ -25,7 +29,10 @@ pub(crate) fn read_atoms(file: &[u8]) -> Result<u16, Refusal>
     requires { 4 ≤ length file.now }
     ensures { result_told result ≡ read_told (λ n. n) (read_atoms file.now) }
 {
-    let content = read_field(file, Paper::File, tags::ATOMS, false, 4)?;
+    let read = read_field(file, Paper::File, tags::ATOMS, false, 4);
+    let Ok(content) = read else {
+        return Err(read.unwrap_err());
+    };
     let atoms = number_at(content, 0);
     if atoms < 1 || 256 < atoms {
         return Err(Fault::AtomCount.at(Paper::File, 4));
@@ -39,7 +46,10 @@ pub(crate) fn read_abducibles(file: &[u8], atoms: u16) -> Result<&[u8], Refusal>
     requires { 9 ≤ length file.now }
     ensures { value_told (λ content. numbers content.now) result ≡ read_told (λ l. l) (read_abducibles atoms file.now) }
 {
-    let content = read_field(file, Paper::File, tags::ABDUCIBLES, false, 9)?;
+    let read = read_field(file, Paper::File, tags::ABDUCIBLES, false, 9);
+    let Ok(content) = read else {
+        return Err(read.unwrap_err());
+    };
     check_abducibles(content, atoms).map_err(|fault| fault.at(Paper::File, 9))?;
     Ok(content)
 }
@@ -64,7 +74,10 @@ fn read_run(
     };
     while tag_at(file, run.next) == Some(tag) {
         let place = run.next;
-        let content = read_field(file, Paper::File, tag, run.count == limit, place)?;
+        let read = read_field(file, Paper::File, tag, run.count == limit, place);
+        let Ok(content) = read else {
+            return Err(read.unwrap_err());
+        };
         check_body(tag, content, abducibles, atoms).map_err(|fault| fault.at(Paper::File, place))?;
         run.count += 1;
         run.next += 3 + content.len();
@@ -77,7 +90,10 @@ pub(crate) fn read_end(bytes: &[u8], paper: Paper, place: usize) -> Result<usize
     requires { place ≤ length bytes.now }
     ensures { result_told result ≡ read_told (λ n. n) (read_end paper place bytes.now) }
 {
-    read_field(bytes, paper, tags::END, false, place)?;
+    let read = read_field(bytes, paper, tags::END, false, place);
+    let Ok(_) = read else {
+        return Err(read.unwrap_err());
+    };
     let after = place + 3;
     if bytes.len() != after {
         return Err(Fault::Tail.at(paper, after));
@@ -92,9 +108,18 @@ pub(crate) fn read_rules(file: &[u8], atoms: u16, abducibles: &[u8]) -> Result<C
 {
     let count = abducibles.len() / 2;
     let first = 12 + 2 * count;
-    let rules = read_run(file, abducibles, tags::RULE, atoms, 1024, first)?;
-    let integrity = read_run(file, abducibles, tags::INTEGRITY, atoms, 256, rules.next)?;
-    read_end(file, Paper::File, integrity.next)?;
+    let read = read_run(file, abducibles, tags::RULE, atoms, 1024, first);
+    let Ok(rules) = read else {
+        return Err(read.unwrap_err());
+    };
+    let then = read_run(file, abducibles, tags::INTEGRITY, atoms, 256, rules.next);
+    let Ok(integrity) = then else {
+        return Err(then.unwrap_err());
+    };
+    let end = read_end(file, Paper::File, integrity.next);
+    let Ok(_) = end else {
+        return Err(end.unwrap_err());
+    };
     Ok(Contents {
         atoms,
         abducibles: count,

@@ -14,13 +14,22 @@ use fields::read_field;
 use file::{read_abducibles, read_atoms, read_edition, read_end, read_rules};
 use papers::{Contents, Paper, Refusal, tags};
 
-// The file alone.
+// The file alone. Each field read is taken apart as in `file`.
 pub fn read_file(file: &[u8]) -> Result<Contents, Refusal>
     ensures { result_told result ≡ read_told contents_of (read_file file.now) }
 {
-    read_edition(file)?;
-    let atoms = read_atoms(file)?;
-    let abducibles = read_abducibles(file, atoms)?;
+    let edition = read_edition(file);
+    let Ok(_) = edition else {
+        return Err(edition.unwrap_err());
+    };
+    let counted = read_atoms(file);
+    let Ok(atoms) = counted else {
+        return Err(counted.unwrap_err());
+    };
+    let listed = read_abducibles(file, atoms);
+    let Ok(abducibles) = listed else {
+        return Err(listed.unwrap_err());
+    };
     read_rules(file, atoms, abducibles)
 }
 
@@ -28,9 +37,15 @@ pub fn read_file(file: &[u8]) -> Result<Contents, Refusal>
 fn read_sheet(sheet: &[u8], atoms: u16) -> Result<usize, Refusal>
     ensures { result_told result ≡ read_told length (read_sheet atoms sheet.now) }
 {
-    let query = read_field(sheet, Paper::Sheet, tags::QUERY, false, 0)?;
+    let read = read_field(sheet, Paper::Sheet, tags::QUERY, false, 0);
+    let Ok(query) = read else {
+        return Err(read.unwrap_err());
+    };
     check_literals(query, atoms, false).map_err(|fault| fault.at(Paper::Sheet, 0))?;
-    read_end(sheet, Paper::Sheet, 3 + query.len())?;
+    let end = read_end(sheet, Paper::Sheet, 3 + query.len());
+    let Ok(_) = end else {
+        return Err(end.unwrap_err());
+    };
     Ok(query.len() / 2)
 }
 

@@ -11,32 +11,32 @@ use Rattle.papers.specs.Content.{atoms_fault}
 use Rattle.papers.specs.Reading.{read_atoms}
 use Rattle.papers.proofs.FieldGot.{Got, got_content, pairs_length}
 use Rattle.papers.proofs.NumbersWalked.{first_number}
-use Rattle.papers.proofs.ReadersGot.{got_refused, ok_told, err_told, handed_on}
+use Rattle.papers.proofs.ReadersGot.{got_refused, ok_told, err_told}
 use Rattle.reading.proofs.file.read_atoms.Goals as goal
-use Rattle.reading.proofs.file.read_atoms.Goals.{In_ok-content, then-atoms-lt1-via-then-atoms-lt1, then-atoms-lt1-via-else-atoms-lt1+then-atoms-gt256}
+use Rattle.reading.proofs.file.read_atoms.Goals.{In-Ok, then-atoms-lt1-via-then-atoms-lt1, then-atoms-lt1-via-else-atoms-lt1+then-atoms-gt256}
 
-field : (c : In_ok-content) → Got File 0x02 false 4 c.args.file.now c.in_ok-content.content.now
-field c = got_content _ _ _ _ _ c.read_field.ensures.told c.in_ok-content.was
+field : (c : In-Ok) → Got File 0x02 false 4 c.args.file.now c.in-Ok.content.now
+field c = got_content _ _ _ _ _ c.read_field-read.ensures.told c.in-Ok.is
 
 -- Its content is one two-byte number.
-pair : (c : In_ok-content) → 1 < length c.in_ok-content.content.now
+pair : (c : In-Ok) → 1 < length c.in-Ok.content.now
 unfolding fewest
 pair c = omega (arith, (pairs_length 0x02 _ (λ e. omega arith) (field c).whole.allowed).least)
 
-pub returns-in_err-content : goal.returns-in_err-content
+pub returns-in_default : goal.returns-in_default
 unfolding read_atoms
-returns-in_err-content c =
-    let e = got_refused _ _ (read_field File 0x02 false 4 c.args.file.now) c.read_field.ensures.told c.in_err-content.was in
-    handed_on _ _ _ _ _ c.from_residual.ensures.1 (rw e)
+returns-in_default c =
+    let e = got_refused _ _ (read_field File 0x02 false 4 c.args.file.now) c.read_field-read.ensures.told c.unwrap_err.ensures in
+    err_told _ _ _ _ (rw e)
 
 pub number_at-atoms-requires : goal.number_at-atoms-requires
-number_at-atoms-requires c = pair (goal.at.number_at-atoms-requires c).In_ok-content
+number_at-atoms-requires c = pair (goal.at.number_at-atoms-requires c).In-Ok
 
 pub returns-then-atoms-lt1 : goal.returns-then-atoms-lt1
 unfolding read_atoms atoms_fault
 returns-then-atoms-lt1 c =
-    let here = (goal.at.returns-then-atoms-lt1 c).In_ok-content in
-    let is = first_number c.in_ok-content.content.now (pair here) c.number_at-atoms.ensures.0 in
+    let here = (goal.at.returns-then-atoms-lt1 c).In-Ok in
+    let is = first_number c.in-Ok.content.now (pair here) c.number_at-atoms.ensures.0 in
     rw c.at.ensures
     (err_told _ _ _ _
     (elim c.then-atoms-lt1.branch [
@@ -48,8 +48,8 @@ returns-then-atoms-lt1 c =
 pub returns : goal.returns
 unfolding read_atoms atoms_fault
 returns c =
-    let here = (goal.at.returns c).In_ok-content in
-    let is = first_number c.in_ok-content.content.now (pair here) c.number_at-atoms.ensures.0 in
+    let here = (goal.at.returns c).In-Ok in
+    let is = first_number c.in-Ok.content.now (pair here) c.number_at-atoms.ensures.0 in
     ok_told _ _ _ (record {
       value = _;
       is = rw ((field here).read, is, le-leb 1 _ c.if-atoms-lt1.false, le-leb _ 256 c.if-atoms-gt256.false);

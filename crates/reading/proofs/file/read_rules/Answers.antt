@@ -11,14 +11,14 @@ use Rattle.papers.specs.Reading.{Run, first_rule, read_run, read_end}
 use Rattle.papers.specs.Answers.{run_of}
 use Rattle.papers.specs.Told.{read_told}
 use Rattle.papers.proofs.NumbersWalked.{count_numbers}
-use Rattle.papers.proofs.ReadersGot.{Read, got_accepted, got_refused, ok_told, handed_on}
+use Rattle.papers.proofs.ReadersGot.{Read, got_accepted, got_refused, ok_told, err_told}
 use Rattle.papers.proofs.RulesToEnd.{rules_refused, rules_within, integrity_refused, integrity_within, end_refused, all_accepted}
 use Rattle.reading.proofs.file.read_rules.Goals as goal
-use Rattle.reading.proofs.file.read_rules.Goals.{After-read_run, In_ok-rules, In_ok-integrity}
+use Rattle.reading.proofs.file.read_rules.Goals.{After-read_run-read, In-Ok, In-Ok-then}
 
 -- ---- once the rules are asked for
 
-module _ (c : After-read_run) where
+module _ (c : After-read_run-read) where
   abbrev listed : List ℕ
   listed = numbers c.args.abducibles.now
 
@@ -34,63 +34,63 @@ module _ (c : After-read_run) where
 
 -- ---- once they are read
 
-module _ (c : In_ok-rules) where
-  abbrev asked : After-read_run
-  asked = (goal.at.In_ok-rules c).After-read_run
+module _ (c : In-Ok) where
+  abbrev asked : After-read_run-read
+  asked = (goal.at.In-Ok c).After-read_run-read
 
-  rules_ran : Read (run_of 0) (run asked 0x04 1024 (first_rule (listed asked))) c.in_ok-rules.rules
-  rules_ran = got_accepted _ _ _ (c.read_run.ensures ∙ rules_asked asked) c.in_ok-rules.was
+  rules_ran : Read (run_of 0) (run asked 0x04 1024 (first_rule (listed asked))) c.in-Ok.rules
+  rules_ran = got_accepted _ _ _ (c.read_run-read.ensures ∙ rules_asked asked) c.in-Ok.is
 
 -- ---- once the integrity rules are read
 
-module _ (c : In_ok-integrity) where
-  abbrev rules_read : In_ok-rules
-  rules_read = (goal.at.In_ok-integrity c).In_ok-rules
+module _ (c : In-Ok-then) where
+  abbrev rules_read : In-Ok
+  rules_read = (goal.at.In-Ok-then c).In-Ok
 
-  integrity_ran : Read (run_of 0) (run (asked rules_read) 0x05 256 c.in_ok-rules.rules.next) c.in_ok-integrity.integrity
-  integrity_ran = got_accepted _ _ _ c.read_run-2.ensures c.in_ok-integrity.was
+  integrity_ran : Read (run_of 0) (run (asked rules_read) 0x05 256 c.in-Ok.rules.next) c.in-Ok-then.integrity
+  integrity_ran = got_accepted _ _ _ c.read_run-then.ensures c.in-Ok-then.is
 
-pub read_run-requires-clause-place : goal.read_run-requires-clause-place
-read_run-requires-clause-place c = let e = count_numbers c.args.abducibles.now in let r = c.requires in omega arith
+pub read_run-read-requires-clause-place : goal.read_run-read-requires-clause-place
+read_run-read-requires-clause-place c = let e = count_numbers c.args.abducibles.now in let r = c.requires in omega arith
 
-pub returns-in_err-rules : goal.returns-in_err-rules
-returns-in_err-rules c =
+pub returns-in_default : goal.returns-in_default
+returns-in_default c =
     let a = c.args in
-    let at = (goal.at.returns-in_err-rules c).After-read_run in
-    let e = got_refused _ (run_of 0) (run at 0x04 1024 (first_rule (listed at))) (c.read_run.ensures ∙ rules_asked at) c.in_err-rules.was in
-    handed_on _ _ _ _ _ c.from_residual.ensures.1 (rules_refused a.atoms (listed at) a.file.now c.requires e)
+    let at = (goal.at.returns-in_default c).After-read_run-read in
+    let e = got_refused _ (run_of 0) (run at 0x04 1024 (first_rule (listed at))) (c.read_run-read.ensures ∙ rules_asked at) c.unwrap_err.ensures in
+    err_told _ _ _ _ (rules_refused a.atoms (listed at) a.file.now c.requires e)
 
-pub read_run-requires-2-clause-place : goal.read_run-requires-2-clause-place
-read_run-requires-2-clause-place c =
+pub read_run-then-requires-clause-place : goal.read_run-then-requires-clause-place
+read_run-then-requires-clause-place c =
     let a = c.args in
-    rules_within a.atoms (numbers a.abducibles.now) a.file.now c.requires (rules_ran (goal.at.read_run-requires-2-clause-place c).In_ok-rules)
+    rules_within a.atoms (numbers a.abducibles.now) a.file.now c.requires (rules_ran (goal.at.read_run-then-requires-clause-place c).In-Ok)
 
-pub returns-in_err-integrity : goal.returns-in_err-integrity
-returns-in_err-integrity c =
+pub returns-in_default-then : goal.returns-in_default-then
+returns-in_default-then c =
     let a = c.args in
-    let read = (goal.at.returns-in_err-integrity c).In_ok-rules in
-    let e = got_refused _ (run_of 0) (run (asked read) 0x05 256 c.in_ok-rules.rules.next) c.read_run-2.ensures c.in_err-integrity.was in
-    handed_on _ _ _ _ _ c.from_residual-in_err-integrity.ensures.1
+    let read = (goal.at.returns-in_default-then c).In-Ok in
+    let e = got_refused _ (run_of 0) (run (asked read) 0x05 256 c.in-Ok.rules.next) c.read_run-then.ensures c.unwrap_err-in_default-then.ensures in
+    err_told _ _ _ _
     (integrity_refused a.atoms (numbers a.abducibles.now) a.file.now c.requires (rules_ran read) e)
 
-pub read_end-requires : goal.read_end-requires
-read_end-requires c =
+pub read_end-end-requires : goal.read_end-end-requires
+read_end-end-requires c =
     let a = c.args in
-    let read = (goal.at.read_end-requires c).In_ok-integrity in
+    let read = (goal.at.read_end-end-requires c).In-Ok-then in
     integrity_within a.atoms (numbers a.abducibles.now) a.file.now c.requires (rules_ran (rules_read read)) (integrity_ran read)
 
-pub returns-in_err-read_end : goal.returns-in_err-read_end
-returns-in_err-read_end c =
+pub returns-in_default-end : goal.returns-in_default-end
+returns-in_default-end c =
     let a = c.args in
-    let read = (goal.at.returns-in_err-read_end c).In_ok-integrity in
-    let e = got_refused _ _ (read_end File c.in_ok-integrity.integrity.next a.file.now) c.read_end.ensures c.in_err-read_end.was in
-    handed_on _ _ _ _ _ c.from_residual-in_err-read_end.ensures.1
+    let read = (goal.at.returns-in_default-end c).In-Ok-then in
+    let e = got_refused _ _ (read_end File c.in-Ok-then.integrity.next a.file.now) c.read_end-end.ensures c.unwrap_err-in_default-end.ensures in
+    err_told _ _ _ _
     (end_refused a.atoms (numbers a.abducibles.now) a.file.now c.requires (rules_ran (rules_read read)) (integrity_ran read) e)
 
 pub returns : goal.returns
 returns c =
     let a = c.args in
-    let read = (goal.at.returns c).In_ok-integrity in
-    let end = got_accepted _ _ (read_end File c.in_ok-integrity.integrity.next a.file.now) c.read_end.ensures c.in_ok-read_end.was in
+    let read = (goal.at.returns c).In-Ok-then in
+    let end = got_accepted _ _ (read_end File c.in-Ok-then.integrity.next a.file.now) c.read_end-end.ensures c.in-Ok-end.is in
     let all = all_accepted a.atoms (numbers a.abducibles.now) a.file.now c.requires (rules_ran (rules_read read)) (integrity_ran read) end.is in
     ok_told _ _ _ (rw (sym (count_numbers a.abducibles.now)) all)

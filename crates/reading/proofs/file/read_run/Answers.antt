@@ -18,14 +18,14 @@ use Rattle.papers.specs.Reading.{Run, run_from, read_run}
 use Rattle.papers.specs.Answers.{run_of}
 use Rattle.papers.specs.Told.{read_told}
 use Rattle.papers.proofs.FieldGot.{Got, got_content, pairs_length}
-use Rattle.papers.proofs.ReadersGot.{got_refused, ok_told, handed_on, check_passed, check_failed, mapped_passed, mapped_failed}
+use Rattle.papers.proofs.ReadersGot.{got_refused, ok_told, err_told, handed_on, check_passed, check_failed, mapped_passed, mapped_failed}
 use Rattle.papers.proofs.RunTurn.{tag_found, tag_other, run_ended, run_refused, run_fault, run_next}
 use Rattle.reading.proofs.file.read_run.Goals as goal
-use Rattle.reading.proofs.file.read_run.Goals.{After-read_field, In_ok-content, In_ok-map_err}
+use Rattle.reading.proofs.file.read_run.Goals.{After-read_field-read, In-Ok, In_ok-map_err}
 
 -- ---- once a field is asked for
 
-module _ (c : After-read_field) where
+module _ (c : After-read_field-read) where
   abbrev file : List ℕ
   file = c.args.file.now
 
@@ -44,19 +44,19 @@ module _ (c : After-read_field) where
 
 -- ---- once it is whole
 
-module _ (c : In_ok-content) where
-  abbrev asked : After-read_field
-  asked = (goal.at.In_ok-content c).After-read_field
+module _ (c : In-Ok) where
+  abbrev asked : After-read_field-read
+  asked = (goal.at.In-Ok c).After-read_field-read
 
   abbrev content : List ℕ
-  content = c.in_ok-content.content.now
+  content = c.in-Ok.content.now
 
   -- How many more may follow it.
   abbrev room : ℕ
   room = c.args.limit - (count asked + 1)
 
   field : Got File c.args.tag (eqb (count asked) c.args.limit) (next asked) (file asked) content
-  field = got_content _ _ _ _ _ c.read_field.ensures.told c.in_ok-content.was
+  field = got_content _ _ _ _ _ c.read_field-read.ensures.told c.in-Ok.is
 
   -- So there was room for it.
   more : count asked < c.args.limit
@@ -77,20 +77,20 @@ module _ (c : In_ok-content) where
 -- ---- once it has passed its test
 
 passed : (c : In_ok-map_err)
-    → body_fault c.args.tag c.args.atoms (numbers c.args.abducibles.now) (numbers c.in_ok-content.content.now) ≡ 0
+    → body_fault c.args.tag c.args.atoms (numbers c.args.abducibles.now) (numbers c.in-Ok.content.now) ≡ 0
 passed c = check_passed c.check_body.ensures (mapped_passed _ c.in_ok-map_err.ensures.variant)
 
 pub loop-place-init : goal.loop-place-init
 loop-place-init c = record { within = c.requires.place; few = omega arith; same = rw sub-zero }
 
-pub returns-in_err-content : goal.returns-in_err-content
-returns-in_err-content c =
+pub returns-in_default : goal.returns-in_default
+returns-in_default c =
     let a = c.args in
-    let here = (goal.at.returns-in_err-content c).After-read_field in
+    let here = (goal.at.returns-in_default c).After-read_field-read in
     let few = c.loop-place.invariant.few in
     let full = eqb (count here) a.limit in
-    let e = got_refused _ _ (read_field File a.tag full (next here) (file here)) c.read_field.ensures.told c.in_err-content.was in
-    handed_on _ _ _ _ _ c.from_residual.ensures.1
+    let e = got_refused _ _ (read_field File a.tag full (next here) (file here)) c.read_field-read.ensures.told c.unwrap_err.ensures in
+    err_told _ _ _ _
     (run_refused a.tag a.atoms _ (file here) (next here) (tagged here) (a.limit - count here) full (λ z. eq-eqb (count here) a.limit (omega arith))
     (λ z. ne_eqb (count here) a.limit (λ e. z (omega arith))) e)
     ∙ sym c.loop-place.invariant.same
@@ -98,7 +98,7 @@ returns-in_err-content c =
 pub check_body-requires : goal.check_body-requires
 unfolding fewest
 check_body-requires c = λ e.
-    let here = (goal.at.check_body-requires c).In_ok-content in
+    let here = (goal.at.check_body-requires c).In-Ok in
     let least = (pairs_length _ _ c.requires.tag.1 (field here).whole.allowed).least in
     let head = ap (λ (t : ℕ). 2 * fewest t) e in
     omega arith
@@ -106,25 +106,25 @@ check_body-requires c = λ e.
 pub returns-in_err-map_err : goal.returns-in_err-map_err
 returns-in_err-map_err c =
     let a = c.args in
-    let here = (goal.at.returns-in_err-map_err c).In_ok-content in
+    let here = (goal.at.returns-in_err-map_err c).In-Ok in
     let m = mapped_failed c.check_body.result _ _ c.in_err-map_err.ensures.cases in
     let at : c.in_err-map_err.field-0.0 ≡ record { fault = m.0; paper = File; place = next (asked here) } = search (rules, m.2) in
-    handed_on _ _ _ _ _ c.from_residual-in_err-map_err.ensures.1
+    handed_on _ _ _ _ _ c.from_residual.ensures.1
     (rw at
     (run_fault a.tag a.atoms _ (file (asked here)) (next (asked here)) (tagged (asked here)) (room here) _ (read here) _
     (check_failed c.check_body.ensures m.1)))
     ∙ sym (same_here here)
 
 pub overflow_add-run-in-loop-place-2 : goal.overflow_add-run-in-loop-place-2
-overflow_add-run-in-loop-place-2 c = let w = (field (goal.at.overflow_add-run-in-loop-place-2 c).In_ok-content).whole.within in omega arith
+overflow_add-run-in-loop-place-2 c = let w = (field (goal.at.overflow_add-run-in-loop-place-2 c).In-Ok).whole.within in omega arith
 
 pub loop-place-smaller : goal.loop-place-smaller
-loop-place-smaller c = let m = more (goal.at.loop-place-smaller c).In_ok-content in omega arith
+loop-place-smaller c = let m = more (goal.at.loop-place-smaller c).In-Ok in omega arith
 
 pub loop-place-preserved : goal.loop-place-preserved
 loop-place-preserved c =
     let a = c.args in
-    let here = (goal.at.loop-place-preserved c).In_ok-content in
+    let here = (goal.at.loop-place-preserved c).In-Ok in
     let after = next (asked here) + 3 + length (content here) in
     let place : after ≡ next (asked here) + (3 + length (content here)) = omega arith in
     record {
