@@ -6,9 +6,8 @@ ghost use Rattle.lanes.specs.Words.{Literals, total};
 ghost use Rattle.closing.specs.FalseWords.{EntryStands, EntriesStand, SomeWord, EntryWord, Dropped, FalseWords};
 
 use crate::passes::{Rows, settle};
-use decoded::{number_in, objective_in};
+use decoded::{body_literal_in, number_in, objective_in};
 use lanes::words::{other_lanes, word_of};
-use literals::bodies::body_literal;
 use sets::fill_words;
 
 // The lanes in which one of a clause's literals holds. Not one with `body_word`: a body needs all of its literals, and so begins, joins and ends otherwise.
@@ -17,8 +16,9 @@ fn clause_word(clause: &[u16], truth: &[u64; 513], falses: &[u64; 513]) -> u64
     ensures { SomeWord clause.now truth.now falses.now result }
 {
     let mut word = 0;
-    for number in clause {
-        word |= word_of(body_literal(usize::from(*number)), truth, falses);
+    // By index, as in `body_word`.
+    for i in 0..clause.len() {
+        word |= word_of(body_literal_in(clause, i), truth, falses);
     }
     word
 }

@@ -4,7 +4,8 @@ ghost use Rattle.literals.specs.BodyLiterals.{Below};
 ghost use Rattle.lanes.specs.Lanes.{lane_bit};
 ghost use Rattle.lanes.specs.Words.{OtherLanes, word_of, Literals, BodyWord};
 
-use literals::bodies::{BodyLiteral, body_literal};
+use decoded::body_literal_in;
+use literals::bodies::BodyLiteral;
 use literals::{is_default_negated, objective_of};
 
 // Whether lane l of a word is set.
@@ -50,11 +51,12 @@ pub fn body_word(body: &[u16], set: &[u64; 513], negated: &[u64; 513], lanes: u6
     ensures { BodyWord body.now set.now negated.now lanes result }
 {
     let mut word = lanes;
-    for number in body {
+    // By index: a literal of a row is read at its place.
+    for i in 0..body.len() {
         if word == 0 {
             return 0;
         }
-        word &= word_of(body_literal(usize::from(*number)), set, negated);
+        word &= word_of(body_literal_in(body, i), set, negated);
     }
     word
 }

@@ -2,5 +2,5 @@
 use Rattle.closing.proofs.ClauseWords.{SomeTo}
 use Rattle.closing.proofs.falsity.clause_word.Given as goal
 
-abbrev pub invariant-loop-number : goal.invariant-loop-number
-invariant-loop-number l = SomeTo l.clause l.truth l.falses l.number-index l.word
+abbrev pub invariant-loop-i : goal.invariant-loop-i
+invariant-loop-i l = SomeTo l.clause l.truth l.falses l.i l.word

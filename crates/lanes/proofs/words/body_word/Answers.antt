@@ -5,17 +5,17 @@ use Rattle.lanes.proofs.WordLaws.{word_ends, word_left, literal_below, word_goes
 use Rattle.lanes.proofs.words.body_word.Goals as goal
 
 pub returns-then-word-eq0 : goal.returns-then-word-eq0
-returns-then-word-eq0 c = let l = c.loop-number in word_left _ _ _ _ l.number-index l.word l.invariant c.if-word-eq0.true
+returns-then-word-eq0 c = let l = c.loop-i in word_left _ _ _ _ l.i l.word l.invariant c.if-word-eq0.true
 
 pub word_of-word-requires : goal.word_of-word-requires
 word_of-word-requires c =
-    let l = c.loop-number in
-    literal_below _ _ _ _ l.number-index l.word l.invariant (omega arith) (rw c.from.ensures at c.body_literal.ensures) 513 c.requires
+    let l = c.loop-i in
+    literal_below _ _ _ _ l.i l.word l.invariant (omega arith) c.body_literal_in.ensures 513 c.requires
 
-pub loop-number-preserved : goal.loop-number-preserved
-loop-number-preserved c =
-    let l = c.loop-number in
-    rw c.word_of-word.ensures (word_goes_on _ _ _ _ l.number-index l.word l.invariant (omega arith) (rw c.from.ensures at c.body_literal.ensures))
+pub loop-i-preserved : goal.loop-i-preserved
+loop-i-preserved c =
+    let l = c.loop-i in
+    rw c.word_of-word.ensures (word_goes_on _ _ _ _ l.i l.word l.invariant (omega arith) c.body_literal_in.ensures)
 
 pub returns : goal.returns
-returns c = let l = c.loop-number in word_ends _ _ _ _ l.number-index l.word l.invariant (omega arith)
+returns c = let l = c.loop-i in word_ends _ _ _ _ l.i l.word l.invariant (omega arith)

@@ -3,5 +3,5 @@
 use Rattle.lanes.proofs.WordLaws.{WordTo}
 use Rattle.lanes.proofs.words.body_word.Given as goal
 
-abbrev pub invariant-loop-number : goal.invariant-loop-number
-invariant-loop-number l = WordTo l.number-index l.body l.set l.negated l.lanes l.word
+abbrev pub invariant-loop-i : goal.invariant-loop-i
+invariant-loop-i l = WordTo l.i l.body l.set l.negated l.lanes l.word
