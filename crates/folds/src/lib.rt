@@ -3,7 +3,6 @@
 #![tactic(auto)]
 
 ghost use Rattle.std.specs.Prelude.{◌≡◌, ℕ, ◌+◌, ◌<◌, get_or, length, drop};
-ghost use Rattle.std.proofs.Props.{props};
 ghost use Rattle.papers.specs.Program.{all_rules, rule_at};
 ghost use Rattle.papers.specs.Field.{size_of};
 ghost use Rattle.papers.specs.Reading.{read_file, program_in};
@@ -45,7 +44,7 @@ pub struct RuleFile<'a> {
     pub contents: Contents,
     pub places: [usize; 1280],
     pub ghost fits: { (i : ℕ) → get_or bytes.now i 0 < 256 },
-    pub ghost walked: { Walked bytes.now contents places } by { Prim.hlevel props },
+    pub ghost walked: { Walked bytes.now contents places },
 }
 
 impl<'a> RuleFile<'a> {
