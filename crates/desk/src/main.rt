@@ -2,7 +2,7 @@
 // explanations and prints them.
 #![tactic(auto)]
 
-ghost use Rattle.std.specs.Prelude.{◌≡◌};
+ghost use Rattle.std.specs.Prelude.{◌≡◌, ◌≤◌, length};
 ghost use Rattle.std.specs.Counts.{IsPrefixLen};
 ghost use Rattle.papers.specs.Reading.{read_papers};
 ghost use Rattle.printout.specs.Output.{desk_text};
@@ -31,7 +31,9 @@ fn read_all(file: &mut impl Read, paper: &mut [u8]) -> usize
 }
 
 // The first 65,536 bytes of a file. One that cannot be read counts as empty.
-fn read_paper<'a>(rt: &impl Files, path: &str, paper: &'a mut [u8; 65536]) -> &'a [u8] {
+fn read_paper<'a>(rt: &impl Files, path: &str, paper: &'a mut [u8; 65536]) -> &'a [u8]
+    ensures { length result.now ≤ 65536 }
+{
     let Ok(mut file) = File::open(rt, path) else {
         return &[];
     };

@@ -13,7 +13,7 @@ ghost use Rattle.printout.specs.Output.{found_lines, desk_text};
 
 use decimals::Printer;
 use model::scenario_count;
-use papers::Contents;
+use papers::{Contents, Refusal};
 use searching::search_all;
 
 // The lines of the found entries.
@@ -65,7 +65,13 @@ fn write_text(page: &mut Printer, file: &[u8], sheet: &[u8], dual: &mut [u8], li
 {
     match reading::read_papers(file, sheet) {
         Ok((contents, _)) => write_accepted(page, file, sheet, contents, dual, list),
-        Err(refusal) => report::write_refused(page, refusal),
+        Err(
+            Refusal {
+                fault,
+                paper,
+                place,
+            },
+        ) => report::write_refused(page, fault.number(), paper, place),
     }
 }
 

@@ -2,12 +2,12 @@
 #![tactic(auto)]
 
 ghost use Rattle.std.specs.Prelude.{◌≡◌, ◌+◌, ◌<◌, ◌≤◌, ◌^◌, length};
-ghost use Rattle.papers.specs.Told.{refusal_of};
+ghost use Rattle.papers.specs.Outcome.{refusal};
 ghost use Rattle.decimals.specs.Printing.{Printed};
 ghost use Rattle.report.specs.Lines.{state_word, paper_word, heading_line, last_line, refused_line};
 
 use decimals::Printer;
-use papers::{Paper, Refusal};
+use papers::Paper;
 use steps::State;
 
 // `atoms 2 abducibles 1 scenarios 3`
@@ -63,17 +63,17 @@ fn paper_word(paper: Paper) -> &'static str
     }
 }
 
-// `refused 6 sheet 0`
-pub fn write_refused(page: &mut Printer, refusal: Refusal)
+// `refused 6 sheet 0`. Of any number, as `refused_line` is.
+pub fn write_refused(page: &mut Printer, number: u8, paper: Paper, place: usize)
     requires { page.old.at < 2 ^ 32 }
-    ensures line { Printed (refused_line (refusal_of refusal)) page.old page.new }
+    ensures line { Printed (refused_line (refusal number paper place)) page.old page.new }
     ensures short { page.new.at ≤ page.old.at + 512 }
 {
     page.put_text("refused ");
-    page.put_number(u64::from(refusal.fault.number()));
+    page.put_number(u64::from(number));
     page.put_text(" ");
-    page.put_text(paper_word(refusal.paper));
+    page.put_text(paper_word(paper));
     page.put_text(" ");
-    page.put_number(refusal.place as u64);
+    page.put_number(place as u64);
     page.put_byte(b'\n');
 }

@@ -17,4 +17,4 @@ pub returns-in-Err-clause-text : goal.returns-in-Err-clause-text
 unfolding desk_text
 returns-in-Err-clause-text c =
     let e = got_refused _ papers_of (read_papers c.args.file.now c.args.sheet.now) c.read_papers.ensures c.in-Err.is in
-    rw e c.write_refused.ensures.line
+    rw e (rw c.number.ensures at c.write_refused.ensures.line)
