@@ -7,6 +7,8 @@ mod writing;
 
 ghost use Rattle.std.specs.Prelude.{◌≡◌, cond, length};
 ghost use Rattle.papers.specs.Reading.{read_file};
+ghost use Rattle.papers.specs.Answers.{contents_of};
+ghost use Rattle.papers.specs.Told.{tells, read_told};
 ghost use Rattle.dual_writer.specs.declared.DualError.TheVariants.{Refused};
 ghost use Rattle.dual_writer.specs.WrittenDual.{written_told, dual_told, dual_after};
 
@@ -14,7 +16,7 @@ use chains::Chains;
 use entries::Source;
 use field_writer::write_end;
 use folds::RuleFile;
-use papers::Refusal;
+use papers::{Contents, Refusal};
 
 // Why no dual is written: document 01's refusal 11, or one of the file's.
 #[derive(Clone, Copy, PartialEq, Eq, Debug)]
@@ -54,10 +56,20 @@ pub fn write_accepted(file: &RuleFile, dual: &mut [u8], allowed: bool) -> Result
     Ok(size)
 }
 
+// The dual of a file that was read. Never inlined, so that a file that is refused takes no room for where its folds stand.
+#[inline(never)]
+fn write_read(file: &[u8], contents: Contents, dual: &mut [u8]) -> Result<usize, DualError>
+    requires { read_told contents_of (read_file file.now) ≡ tells contents }
+    ensures { (written_told result ≡ dual_told (read_file file.now) (length dual.old))
+        × (dual.new ≡ dual_after (read_file file.now) dual.old) }
+{
+    write_accepted(&RuleFile::new(file, contents), dual, true)
+}
+
 pub fn write_dual(file: &[u8], dual: &mut [u8]) -> Result<usize, DualError>
     ensures { (written_told result ≡ dual_told (read_file file.now) (length dual.old))
         × (dual.new ≡ dual_after (read_file file.now) dual.old) }
 {
     let contents = reading::read_file(file)?;
-    write_accepted(&RuleFile::new(file, contents), dual, true)
+    write_read(file, contents, dual)
 }

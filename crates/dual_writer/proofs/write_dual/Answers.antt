@@ -13,6 +13,6 @@ returns-in_err-contents c =
     let p = err_from_is_err_and c.from_residual.result c.from_residual.ensures.1 in
     (rw (refused, p.1, p.2), rw refused)
 
-pub new-requires : goal.new-requires
-new-requires c =
+pub write_read-requires : goal.write_read-requires
+write_read-requires c =
     accepted_told _ _ (got_accepted _ contents_of (read_file c.args.file.now) c.read_file.ensures c.in_ok-contents.was)
