@@ -29,7 +29,9 @@ fn is_allowed(pair: &[u8], atoms: u16, in_body: bool) -> bool
 pub fn check_literals(content: &[u8], atoms: u16, in_body: bool) -> Result<(), Fault>
     ensures { check_told result ≡ literals_fault in_body atoms (numbers content.now) }
 {
-    for pair in content.chunks_exact(2) {
+    // By index: pairs that an iterator cuts off cost a quarter more in reading a file that is full.
+    for i in 0..content.len() / 2 {
+        let pair = &content[2 * i..2 * i + 2];
         if !is_allowed(pair, atoms, in_body) {
             return Err(Fault::Unlisted);
         }
